@@ -1,0 +1,5 @@
+pub mod Cuts
+pub mod FirstForms
+pub mod Grammar
+pub mod Places
+pub mod Tree
