@@ -1,5 +1,17 @@
+pub mod Answer
 pub mod Cuts
+pub mod Ends
 pub mod FirstForms
 pub mod Grammar
+pub mod Judge
+pub mod Kept
+pub mod KeptPlace
+pub mod KeptState
+pub mod Lawful
+pub mod Machine
 pub mod Places
+pub mod Reading
+pub mod Scan
+pub mod Shape
+pub mod Stops
 pub mod Tree
