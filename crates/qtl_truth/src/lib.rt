@@ -1,6 +1,20 @@
-//! Events, and what is true of a log.
+//! Events, what is true of a log, and a plain slow evaluator of it.
 #![tactic(auto)]
 
+mod atom;
 mod event;
+mod laws;
+mod quantifier_free;
+mod scope;
+mod slow;
 
 pub use event::Event;
+pub use laws::{
+    always_is_never_not, interval_is_since, once_is_since, past_decides, since_unfolds,
+    timed_always_is_never_not, timed_once_is_timed_since,
+};
+pub use quantifier_free::{has_no_quantifier, macros_have_no_quantifier};
+pub use slow::evaluate;
+
+#[cfg(test)]
+mod tests;
