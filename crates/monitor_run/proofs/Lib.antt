@@ -1,0 +1,15 @@
+mod BodyTold
+mod BufferLemmas
+mod Ending
+mod FieldLemmas
+mod Judging
+mod LogLemmas
+mod LogTold
+mod More
+mod Passages
+mod PieceLemmas
+mod PropertyLemmas
+mod ScanLemmas
+mod Scanned
+mod Turning
+mod Watched

@@ -1,0 +1,15 @@
+pub mod Answer
+pub mod Buffers
+pub mod Fields
+pub mod Last
+pub mod Lines
+pub mod Passing
+pub mod Pieces
+pub mod Properties
+pub mod Reading
+pub mod Report
+pub mod Scanning
+pub mod Stands
+pub mod Verdicts
+pub mod Walking
+pub mod Watching

@@ -1,0 +1,63 @@
+//! How a run ends.
+ghost use Rattle.std.specs.Prelude.{◌≡◌};
+
+/// One of the two files that the words name.
+#[derive(Clone, Copy, Debug, PartialEq, Eq)]
+pub enum Which {
+    Spec,
+    Log,
+}
+
+/// How a run ends.
+#[derive(Clone, Copy, Debug, PartialEq, Eq)]
+pub enum End {
+    /// The log was read to its end, and no verdict was false.
+    AllTrue,
+    /// The log was read to its end, and `count` verdicts, at least one, were false.
+    Violated { count: u64 },
+    /// There are not exactly two words.
+    Usage,
+    /// The specification is none of the forms that are built, or a line of the log isn't plain.
+    NotBuilt,
+    /// The log has more than `limit` bytes, and nothing in these ended the run.
+    LogTooLong { limit: u64 },
+    /// The file could not be opened, and the files' count of faults rose.
+    OpenFault { which: Which },
+    /// A read of the file failed, and the files' count of faults rose.
+    ReadFault { which: Which },
+    /// A write failed, and the output's count of faults rose.
+    WriteFault,
+    /// There was no memory.
+    NoMemory,
+}
+
+/// What a run answers.
+#[derive(Clone, Copy, Debug, PartialEq, Eq)]
+pub struct Outcome {
+    /// The exit status of `end`, from 0 to 8.
+    pub status: u8,
+    pub end: End,
+    /// How many listeners were dropped: none, since there are no listeners yet.
+    pub dropped: u32,
+}
+
+impl End {
+    ghost use Rattle.monitor_run.specs.Answer.{status_of};
+
+    /// The exit status of this end.
+    pub fn status(self) -> u8
+        ensures { result ≡ status_of self }
+    {
+        match self {
+            End::AllTrue => 0,
+            End::Violated { count: _ } => 1,
+            End::Usage => 2,
+            End::LogTooLong { limit: _ } => 4,
+            End::OpenFault { which: _ } => 6,
+            End::ReadFault { which: _ } => 6,
+            End::WriteFault => 6,
+            End::NoMemory => 7,
+            End::NotBuilt => 8,
+        }
+    }
+}
