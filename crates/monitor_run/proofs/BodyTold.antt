@@ -1,9 +1,9 @@
 -- The log's part of a run, or the refusal of its specification, is the run's body.
-use Rattle.std.proofs.Common.{◌≡◌, ℕ, List, [], ◌∷◌, ◌++◌, length, refl, sym, subst, inl, inr, ◌⊎◌}
+use Rattle.std.proofs.Common.{◌≡◌, ℕ, List, [], ◌∷◌, length, refl, subst, inl, inr}
 use Rattle.std.specs.Prelude.{Option, Some, None, IfSome, ◌≢◌}
 use Rattle.mon_base.specs.Told.{text_of}
 use Rattle.qtl_syntax.specs.Tree.{Text, Formula}
-use Rattle.monitor_run.specs.Answer.{IsProperty, Checked, IsFrontOfLines, LogBody}
+use Rattle.monitor_run.specs.Answer.{IsProperty, Checked, LogBody}
 use Rattle.monitor_run.specs.Properties.{PropertyRead, SpecRefused}
 use Rattle.monitor_run.specs.Reading.{LogTold, Reaches}
 use Rattle.monitor_run.specs.declared.judge.Judge.{Judge}

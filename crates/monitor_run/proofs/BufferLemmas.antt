@@ -1,5 +1,5 @@
 -- What is held of a buffer, as its fields move.
-use Rattle.std.proofs.Common.{◌≡◌, ℕ, ◌+◌, ◌-◌, ◌≤◌, List, ◌++◌, length, take, drop, refl, sym, ap, ◌∙◌, subst, arith, drop-drop, length-drop, min}
+use Rattle.std.proofs.Common.{◌≡◌, ℕ, ◌+◌, ◌-◌, ◌≤◌, List, ◌++◌, length, take, drop, sym, ap, ◌∙◌, arith, drop-drop, length-drop}
 use Rattle.std.proofs.lemmas.List.{drop-take, drop-append-le, length-take, length-take-le}
 use Rattle.std.proofs.Math.Seq.{take-add}
 

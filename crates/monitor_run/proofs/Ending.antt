@@ -3,15 +3,13 @@ use Rattle.std.proofs.Common.{◌≡◌, ℕ, List, [], ◌∷◌, ◌++◌, len
 use Rattle.std.specs.Prelude.{Option, Some, None, IfSome, ⊤}
 use Rattle.std.specs.Io.KnownBytes.{Appends}
 use Rattle.std.proofs.KnownBytes.{Appends-trans}
-use Rattle.mon_base.specs.Told.{AppendsFront}
 use Rattle.qtl_syntax.specs.Tree.{Text}
-use Rattle.monitor_run.specs.Answer.{IsBodyFor, IsAnswer, IsFrontOfAnswer, Writes, last_line, HasFaultCause}
+use Rattle.monitor_run.specs.Answer.{IsBodyFor, IsAnswer, Writes, last_line, HasFaultCause}
 use Rattle.monitor_run.specs.Last.{Sends, Finishes}
 use Rattle.monitor_run.specs.Passing.{Passes}
 use Rattle.monitor_run.specs.Reading.{Reaches}
 use Rattle.monitor_run.specs.declared.end.End.{End}
 use Rattle.monitor_run.specs.declared.end.End.TheVariants.{AllTrue, Violated, Usage, NotBuilt, LogTooLong, OpenFault, ReadFault, WriteFault, NoMemory}
-use Rattle.monitor_run.specs.declared.end.Which.TheVariants.{Spec, Log}
 
 appends_none : (a b c : Option Text) (xs : Text) → Appends a b xs → Appends b c [] → Appends a c xs
 appends_none a b c xs h none = subst (λ (ys : Text). Appends a c ys) (append-nil xs) (Appends-trans a b c xs [] h none)

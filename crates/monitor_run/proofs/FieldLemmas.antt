@@ -1,5 +1,5 @@
 -- The fields of a line, one after the other.
-use Rattle.std.proofs.Common.{◌≡◌, ℕ, ◌+◌, ◌-◌, ◌<◌, ◌≤◌, ◌↔◌, List, [], ◌∷◌, ◌++◌, length, take, drop, get_or, refl, sym, ap, ◌∙◌, subst, arith, take-append-drop, suc, false, true, add-one, inl, inr, ◌⊎◌}
+use Rattle.std.proofs.Common.{◌≡◌, ℕ, ◌+◌, ◌<◌, ◌≤◌, ◌↔◌, List, [], ◌∷◌, ◌++◌, length, take, drop, get_or, refl, sym, ap, ◌∙◌, subst, arith, take-append-drop, false, true, add-one, inl, inr}
 use Rattle.std.specs.Prelude.{not, All, Option, Some, None, Bool, IsTrue, IsSomeAnd}
 use Rattle.std.specs.Option.{is_none, option_map}
 use Rattle.std.specs.List.{slice_split}

@@ -1,6 +1,6 @@
 -- One line more is judged.
-use Rattle.std.proofs.Common.{◌≡◌, ℕ, ◌+◌, ◌↔◌, List, [], ◌∷◌, ◌++◌, map, length, refl, sym, ap, ◌∙◌, subst, arith, Bool, true, false, IsTrue, append_assoc, append-nil, length-append, add-zero, zero-add, cond}
-use Rattle.std.specs.Prelude.{Option, not, count_by}
+use Rattle.std.proofs.Common.{◌≡◌, ℕ, ◌+◌, ◌↔◌, List, [], ◌∷◌, ◌++◌, map, length, sym, ap, ◌∙◌, arith, Bool, IsTrue, append_assoc, append-nil, length-append, zero-add, cond}
+use Rattle.std.specs.Prelude.{Option, not}
 use Rattle.std.proofs.lemmas.List.{map-append}
 use Rattle.std.proofs.lemmas.List.Sums.{sum_by-append}
 use Rattle.mon_base.specs.Told.{AppendsFront}

@@ -1,7 +1,7 @@
 -- How the reading of a log ends.
-use Rattle.std.proofs.Common.{◌≡◌, ℕ, ◌+◌, ◌<◌, ◌≤◌, ◌⊎◌, inl, inr, List, [], ◌∷◌, ◌++◌, length, refl, sym, ap, ◌∙◌, subst, arith, Bool, true, append-nil}
+use Rattle.std.proofs.Common.{◌≡◌, ℕ, ◌<◌, ◌≤◌, inl, inr, List, [], ◌∷◌, length, refl, sym, ◌∙◌, subst, arith, Bool, true}
 use Rattle.std.specs.Prelude.{Option}
-use Rattle.std.specs.Io.KnownBytes.{Appends, Consumes, IsAtEnd}
+use Rattle.std.specs.Io.KnownBytes.{Consumes, IsAtEnd}
 use Rattle.std.proofs.KnownBytes.{Appends-nil, Consumes-nil, Consumes-trans}
 use Rattle.std.proofs.lemmas.Bool.{cases_lt}
 use Rattle.qtl_syntax.specs.Tree.{Text, Formula}
@@ -9,14 +9,11 @@ use Rattle.monitor_run.specs.declared.judge.Judge.{Judge}
 use Rattle.monitor_run.specs.declared.end.End.{End}
 use Rattle.monitor_run.specs.declared.end.End.TheVariants.{AllTrue, Violated, Usage, NotBuilt, LogTooLong, OpenFault, ReadFault, WriteFault, NoMemory}
 use Rattle.monitor_run.specs.Answer.{HasFaultCause, IsNoFault}
-use Rattle.monitor_run.specs.Buffers.{Fills}
 use Rattle.monitor_run.specs.Lines.{may_become_plain, IsOdd}
-use Rattle.monitor_run.specs.Passing.{Passes}
 use Rattle.monitor_run.specs.Reading.{ReadTo, ReadShort, LogRead}
 use Rattle.monitor_run.specs.Report.{violation_lines}
-use Rattle.monitor_run.specs.Verdicts.{false_count}
 use Rattle.monitor_run.specs.Walking.{Walked, WalkCut}
-use Rattle.monitor_run.specs.Watching.{StandsAt, Watching}
+use Rattle.monitor_run.specs.Watching.{StandsAt}
 use Rattle.monitor_run.proofs.ScanLemmas.{odd_end}
 
 -- nothing was read yet

@@ -1,14 +1,13 @@
 -- What was written of a log whose bytes are told.
-use Rattle.std.proofs.Common.{◌≡◌, ◌≤◌, ◌<◌, ◌+◌, ℕ, List, [], ◌∷◌, ◌++◌, length, take, refl, sym, ap, ◌∙◌, subst, inl, inr, ◌⊎◌, arith, append-nil, append_assoc, length-append, Bool, true}
+use Rattle.std.proofs.Common.{◌≡◌, ◌≤◌, ◌<◌, ℕ, List, [], ◌++◌, length, take, sym, ap, ◌∙◌, subst, inl, inr, arith, append-nil, append_assoc, length-append}
 use Rattle.std.specs.Prelude.{Option, Some, None, IsSomeAnd, IfSome}
-use Rattle.std.specs.Io.KnownBytes.{Appends, Consumes, IsAtEnd}
+use Rattle.std.specs.Io.KnownBytes.{Consumes, IsAtEnd}
 use Rattle.std.proofs.Math.Seq.{take-append_seam}
 use Rattle.mon_base.specs.Told.{GivesText, text_of}
 use Rattle.qtl_syntax.specs.Tree.{Text, Formula}
-use Rattle.monitor_run.specs.Answer.{Judged, LogBody}
-use Rattle.monitor_run.specs.Lines.{text_of_lines, may_become_plain}
-use Rattle.monitor_run.specs.Reading.{ReadTo, ReadShort, LogRead, LogCut, LogTold}
-use Rattle.monitor_run.specs.Verdicts.{false_count}
+use Rattle.monitor_run.specs.Answer.{Judged}
+use Rattle.monitor_run.specs.Lines.{text_of_lines}
+use Rattle.monitor_run.specs.Reading.{ReadShort, LogRead, LogCut, LogTold}
 use Rattle.monitor_run.specs.declared.end.End.{End}
 use Rattle.monitor_run.specs.declared.end.End.TheVariants.{AllTrue, Violated, Usage, NotBuilt, LogTooLong, OpenFault, ReadFault, WriteFault, NoMemory}
 use Rattle.monitor_run.specs.declared.end.Which.TheVariants.{Spec, Log}

@@ -1,9 +1,11 @@
 -- What is read of a specification's text.
-use Rattle.std.proofs.Common.{◌≡◌, List, inr}
+use Rattle.std.proofs.Common.{◌≡◌, ◌∙◌, List, [], ◌∷◌, ◌++◌, map, refl, sym, inr}
+use Rattle.qtl_syntax.specs.FirstForms.{IsFirstItems}
+use Rattle.qtl_syntax.specs.Tree.{item_of}
+use Rattle.qtl_syntax.specs.declared.formula.Item.{Item as TheItem}
+use Rattle.qtl_syntax.specs.declared.formula.Item.TheVariants as code_item
 use Rattle.std.specs.Prelude.{Option, Some, None, IfSome, Result, Ok, Err, IfOk, IfErr}
-use Rattle.mon_base.specs.Told.{text_of}
 use Rattle.qtl_syntax.specs.Tree.{Text}
-use Rattle.monitor_run.specs.Answer.{IsProperty}
 use Rattle.monitor_run.specs.Properties.{SpecIs, IsSpelled, IsUnspelled, PropertyRead, SpecRefused}
 use Rattle.monitor_run.specs.declared.judge.Judge.{Judge}
 use Rattle.monitor_run.specs.declared.end.End.{End}
@@ -33,3 +35,19 @@ read_ok (Err end) t spec text s h = h
 pub read_err : (r : Result Judge End) (t : Option (List (Text × Text))) (spec text : Text) (rose : Type 0) → IfSome t (λ files. SpecIs files spec text) → IfErr r (λ end. IsUnspelled text end) → IfErr r (λ end. SpecRefused t spec rose end)
 read_err (Ok judge) t spec text rose s h = h
 read_err (Err end) t spec text rose s h = unspelled_read t spec text rose end s h
+
+-- items of the first forms are one item, and it is a property
+one_item : (xs : List TheItem) → IsFirstItems (map item_of xs) → (x : TheItem) × (xs ≡ x ∷ [])
+one_item [] h = absurd h
+one_item (x ∷ []) h = (x, refl)
+one_item (code_item.Pred name params body ∷ y ∷ xs) h = absurd h
+one_item (code_item.Prop name body ∷ y ∷ xs) h = absurd h
+
+last_item : (ys : List TheItem) (x last : TheItem) → x ∷ [] ≡ ys ++ last ∷ [] → x ∷ [] ≡ last ∷ []
+last_item [] x last e = e
+last_item (y ∷ []) x last e = let no : x ∷ [] ≡ y ∷ (last ∷ []) = e in cc
+last_item (y ∷ z ∷ ys) x last e = let no : x ∷ [] ≡ y ∷ (z ∷ (ys ++ last ∷ [])) = e in cc
+
+-- so the last one is all
+pub popped : (xs ys : List TheItem) (last : TheItem) → IsFirstItems (map item_of xs) → xs ≡ ys ++ last ∷ [] → xs ≡ last ∷ []
+popped xs ys last h e = let one = one_item xs h in one.1 ∙ last_item ys one.0 last (sym one.1 ∙ e)

@@ -1,5 +1,5 @@
 -- How a line that has begun goes on by one byte.
-use Rattle.std.proofs.Common.{◌≡◌, ◌≢◌, ℕ, zero, suc, ◌+◌, ◌-◌, ◌<◌, ◌≤◌, ◌⊎◌, inl, inr, List, [], ◌∷◌, ◌++◌, length, take, drop, get_or, refl, sym, ap, ◌∙◌, subst, arith, Bool, true, false, ◌&&◌, ◌||◌, append_assoc, length-append, take-append-drop, add-one, add-zero, zero-add, cond}
+use Rattle.std.proofs.Common.{◌≡◌, ◌≢◌, ℕ, suc, ◌+◌, ◌<◌, ◌≤◌, ◌⊎◌, inl, inr, [], ◌∷◌, ◌++◌, length, refl, sym, ap, ◌∙◌, subst, arith, Bool, true, false, ◌&&◌, ◌||◌, append_assoc, length-append, add-zero, zero-add, cond}
 use Rattle.std.specs.Prelude.{not, nat_lt, nat_le, count_by}
 use Rattle.std.specs.List.{list_all}
 use Rattle.std.proofs.lemmas.List.Folds.{list_all-append}
@@ -7,7 +7,7 @@ use Rattle.std.proofs.lemmas.List.Sums.{sum_by-append}
 use Rattle.std.proofs.lemmas.Bool.Decides.{nat_tests}
 use Rattle.std.proofs.lemmas.Bool.{cases_lt}
 use Rattle.qtl_syntax.specs.Tree.{Text}
-use Rattle.monitor_run.specs.Lines.{is_comma, is_plain_byte, begins_with_comma, may_become_plain, is_plain, BeginsOddly, IsOdd}
+use Rattle.monitor_run.specs.Lines.{is_comma, is_plain_byte, begins_with_comma, may_become_plain, is_plain, BeginsOddly}
 use Rattle.monitor_run.specs.Scanning.{goes_on}
 
 and_parts : (a b : Bool) → (a && b) ≡ true → (a ≡ true) × (b ≡ true)

@@ -1,6 +1,6 @@
 -- What a look at one byte of some bytes finds.
-use Rattle.std.proofs.Common.{◌≡◌, ◌≢◌, ℕ, ◌+◌, ◌<◌, ◌≤◌, List, [], ◌∷◌, ◌++◌, length, take, drop, get_or, refl, sym, ap, ◌∙◌, subst, arith, Bool, true, false, append_assoc, take-append-drop, add-one, cond}
-use Rattle.std.specs.Prelude.{Option, Some, None, count_by, if◌then◌else◌}
+use Rattle.std.proofs.Common.{◌≡◌, ◌≢◌, ℕ, ◌+◌, ◌<◌, [], ◌∷◌, ◌++◌, length, take, drop, get_or, refl, sym, ap, ◌∙◌, subst, arith, Bool, true, false, append_assoc, take-append-drop, add-one, cond}
+use Rattle.std.specs.Prelude.{Some, None, count_by, if◌then◌else◌}
 use Rattle.std.proofs.Math.Seq.{drop-cons}
 use Rattle.std.proofs.lemmas.List.{take_more, length-take}
 use Rattle.qtl_syntax.specs.Tree.{Text}

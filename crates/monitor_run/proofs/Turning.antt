@@ -1,8 +1,8 @@
 -- One turn of the reading of a log.
-use Rattle.std.proofs.Common.{◌≡◌, ℕ, ◌+◌, ◌<◌, ◌≤◌, List, [], ◌∷◌, ◌++◌, length, refl, sym, ap, ◌∙◌, subst, arith, Bool, true, append_assoc, append-nil, length-append}
+use Rattle.std.proofs.Common.{◌≡◌, ℕ, ◌+◌, ◌<◌, ◌≤◌, List, [], ◌++◌, length, refl, sym, ap, ◌∙◌, subst, arith, Bool, true, append_assoc, append-nil, length-append}
 use Rattle.std.specs.Prelude.{Option}
 use Rattle.std.specs.List.{list_all}
-use Rattle.std.specs.Io.KnownBytes.{Appends, Consumes, IsAtEnd}
+use Rattle.std.specs.Io.KnownBytes.{Appends, Consumes}
 use Rattle.std.proofs.KnownBytes.{Appends-trans, Consumes-trans}
 use Rattle.std.proofs.lemmas.List.Folds.{list_all-append}
 use Rattle.mon_base.specs.Told.{AppendsFront}
@@ -10,13 +10,12 @@ use Rattle.qtl_syntax.specs.Tree.{Text, Formula}
 use Rattle.monitor_run.specs.declared.judge.Judge.{Judge}
 use Rattle.monitor_run.specs.declared.turn.Turn.{Turn}
 use Rattle.monitor_run.specs.declared.turn.Turn.TheVariants.{Judged, AtEnd, Odd, CannotRead, CannotWrite}
-use Rattle.monitor_run.specs.Buffers.{Fills}
 use Rattle.monitor_run.specs.Lines.{is_plain, text_of_lines}
 use Rattle.monitor_run.specs.Passing.{Passes}
 use Rattle.monitor_run.specs.Pieces.{PieceJudged}
 use Rattle.monitor_run.specs.Report.{violation_lines}
 use Rattle.monitor_run.specs.Walking.{Walked, WalkCut, TurnsTo, HeldTurns, IsLeftBy, KeepsCounts}
-use Rattle.monitor_run.specs.Watching.{Watching, CutShort}
+use Rattle.monitor_run.specs.Watching.{Watching}
 use Rattle.monitor_run.proofs.Passages.{passes_front}
 use Rattle.monitor_run.proofs.PieceLemmas.{text_append}
 

@@ -1,5 +1,5 @@
 -- What is written at each end of a run, and when that end comes.
-use Rattle.std.specs.Prelude.{◌≡◌, ◌≢◌, ℕ, ◌<◌, ◌≤◌, ◌⊎◌, ⊤, List, [], ◌∷◌, ◌++◌, length, take, map, Bool, true, Option, Some, None, IsSomeAnd, codes, decimal}
+use Rattle.std.specs.Prelude.{◌≡◌, ℕ, ◌<◌, ◌≤◌, ◌⊎◌, ⊤, List, [], ◌∷◌, ◌++◌, length, take, map, Bool, true, Option, IsSomeAnd, codes, decimal}
 use Rattle.std.specs.List.{list_all}
 use Rattle.std.specs.Io.KnownBytes.{Appends}
 use Rattle.mon_base.specs.Told.{text_of}
@@ -124,7 +124,7 @@ pub record IsFrontOfLines (spec log : Option Text) (front : Text) : Type 0 where
   pub formula : Formula
   pub property : IsProperty spec name formula
   pub judged : IsSomeAnd log (λ all. (given : Text) × (rest : Text) × (verdicts : List Bool) × (more : Text) × (all ≡ given ++ rest)
-    × (length given ≤ MAX_LOG) × Judged name formula given [] verdicts (front ++ more))
+      × (length given ≤ MAX_LOG) × Judged name formula given [] verdicts (front ++ more))
 
 abbrev pub IsFrontOfLog : List (Text × Text) → List Text → Text → Type 0
 IsFrontOfLog texts (spec ∷ log ∷ []) front = IsFrontOfLines (text_of texts spec) (text_of texts log) front

@@ -1,8 +1,7 @@
 -- The bytes of the log that were taken and are not judged yet.
-use Rattle.std.specs.Prelude.{◌≡◌, ℕ, ◌-◌, ◌≤◌, List, ◌++◌, [], take, drop, length, vec_len, Result, Option, IfOk, OnErr}
+use Rattle.std.specs.Prelude.{◌≡◌, ℕ, ◌-◌, ◌≤◌, ◌++◌, take, drop, length, vec_len, Option}
 use Rattle.std.specs.Io.KnownBytes.{Consumes, IsAtEnd}
 use Rattle.qtl_syntax.specs.Tree.{Text}
-use Rattle.mon_base.specs.declared.outside.Failed.{Failed}
 use Rattle.monitor_run.specs.declared.line_buffer.LineBuffer.{LineBuffer}
 
 -- these bytes

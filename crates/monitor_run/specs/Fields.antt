@@ -1,5 +1,5 @@
 -- What is left of a line's fields.
-use Rattle.std.specs.Prelude.{◌≡◌, ℕ, List, [], ◌∷◌, Option, Some, None}
+use Rattle.std.specs.Prelude.{◌≡◌, List, [], ◌∷◌, Option, Some, None}
 use Rattle.std.specs.List.{slice_split}
 use Rattle.qtl_syntax.specs.Tree.{Text}
 use Rattle.monitor_run.specs.declared.fields.Behind.{Behind}

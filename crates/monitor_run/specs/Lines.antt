@@ -1,5 +1,5 @@
 -- A log as it may be so far: plain lines, each with its line feed. A line is the event of its fields.
-use Rattle.std.specs.Prelude.{◌≡◌, ◌≢◌, ℕ, List, [], ◌∷◌, ◌++◌, Bool, true, false, ◌&&◌, not, ◌==◌, nat_le, length, count_by}
+use Rattle.std.specs.Prelude.{◌≡◌, ◌≢◌, ℕ, List, [], ◌∷◌, ◌++◌, Bool, false, ◌&&◌, not, ◌==◌, nat_le, length, count_by}
 use Rattle.std.specs.List.{list_all, slice_split}
 use Rattle.qtl_syntax.specs.Tree.{Text}
 use Rattle.qtl_truth.specs.declared.event.Event.{Event}

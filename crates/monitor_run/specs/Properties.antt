@@ -1,5 +1,5 @@
 -- What is read of a specification.
-use Rattle.std.specs.Prelude.{◌≡◌, ◌<◌, ◌≤◌, ◌⊎◌, ⊤, List, [], ◌∷◌, length, Option, Some, IsSomeAnd, IfSome}
+use Rattle.std.specs.Prelude.{◌≡◌, ◌≤◌, ⊤, List, [], ◌∷◌, length, Option, Some, IfSome}
 use Rattle.mon_base.specs.Told.{text_of}
 use Rattle.qtl_syntax.specs.Tree.{Text, Formula, Item, Prop}
 use Rattle.qtl_syntax.specs.FirstForms.{IsFirst, SpellsFirst}

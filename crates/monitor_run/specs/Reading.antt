@@ -1,19 +1,17 @@
 -- How far the files were read, and what was written of the log.
-use Rattle.std.specs.Prelude.{◌≡◌, ◌≢◌, ℕ, ◌<◌, ◌≤◌, ◌⊎◌, ⊤, List, [], ◌∷◌, ◌++◌, length, Bool, true, Option, Some, None, IsSomeAnd, IfSome}
+use Rattle.std.specs.Prelude.{◌≡◌, ℕ, ◌<◌, ◌≤◌, ◌⊎◌, List, [], ◌++◌, length, Bool, true, Option, IsSomeAnd}
 use Rattle.std.specs.List.{list_all}
 use Rattle.std.specs.Io.KnownBytes.{Appends, Consumes, IsAtEnd}
-use Rattle.mon_base.specs.Told.{text_of}
-use Rattle.qtl_syntax.specs.Tree.{Text, Formula, Item, Prop}
-use Rattle.qtl_syntax.specs.FirstForms.{SpellsFirst}
+use Rattle.qtl_syntax.specs.Tree.{Text, Formula}
 use Rattle.monitor_run.specs.Lines.{text_of_lines, is_plain, may_become_plain, BeginsOddly, IsOdd}
 use Rattle.monitor_run.specs.Passing.{Passes}
 use Rattle.monitor_run.specs.Verdicts.{false_count}
 use Rattle.monitor_run.specs.Watching.{CutShort}
-use Rattle.monitor_run.specs.Answer.{Judged, IsBodyFor, IsFront, LogBody, IsFrontOfLines}
+use Rattle.monitor_run.specs.Answer.{Judged, IsBodyFor, IsFront, LogBody}
 use Rattle.monitor_run.specs.declared.TheConstants.{MAX_LOG}
 use Rattle.monitor_run.specs.declared.end.End.{End}
-use Rattle.monitor_run.specs.declared.end.End.TheVariants.{AllTrue, Violated, Usage, NotBuilt, LogTooLong, OpenFault, ReadFault, WriteFault, NoMemory}
-use Rattle.monitor_run.specs.declared.end.Which.TheVariants.{Spec, Log}
+use Rattle.monitor_run.specs.declared.end.End.TheVariants.{AllTrue, Violated, NotBuilt, LogTooLong, ReadFault, WriteFault, NoMemory}
+use Rattle.monitor_run.specs.declared.end.Which.TheVariants.{Log}
 
 -- these bytes of the log were judged, others behind them were taken too, and the violations were written or are held back
 pub record ReadTo (name : Text) (f : Formula) (left0 left1 sent0 sent1 : Option Text) (held given begun behind : Text) (verdicts : List Bool) : Type 0 where
@@ -60,7 +58,7 @@ pub record LogCut (name : Text) (f : Formula) (log : Option Text) (sent0 sent1 :
   pub front : Text
   pub grown : Appends sent0 sent1 front
   pub judged : IsSomeAnd log (λ all. (given : Text) × (rest : Text) × (verdicts : List Bool) × (more : Text) × (all ≡ given ++ rest)
-    × (length given ≤ MAX_LOG) × Judged name f given [] verdicts (front ++ more))
+      × (length given ≤ MAX_LOG) × Judged name f given [] verdicts (front ++ more))
 
 -- how the reading of a log ends whose bytes are told
 abbrev pub LogTold : Text → Formula → Option Text → (sent0 sent1 : Option Text) → Text → End → ℕ → Type 0

@@ -1,5 +1,5 @@
 -- The lines that tell the false verdicts.
-use Rattle.std.specs.Prelude.{ℕ, ◌+◌, List, [], ◌∷◌, ◌++◌, Bool, true, false, codes, decimal, if◌then◌else◌}
+use Rattle.std.specs.Prelude.{ℕ, ◌+◌, List, [], ◌∷◌, ◌++◌, Bool, codes, decimal, if◌then◌else◌}
 use Rattle.qtl_syntax.specs.Tree.{Text}
 
 -- the property of this name is false at this event

@@ -1,5 +1,5 @@
 -- What a look over the bytes of a line finds.
-use Rattle.std.specs.Prelude.{◌≡◌, ℕ, ◌+◌, ◌<◌, List, take, Bool, true, ◌&&◌, ◌||◌, not, nat_lt, Option, Some, None, slice_index, count_by, length, if◌then◌else◌}
+use Rattle.std.specs.Prelude.{◌≡◌, ℕ, ◌+◌, ◌<◌, take, Bool, true, ◌&&◌, ◌||◌, not, nat_lt, Option, Some, None, slice_index, count_by, length, if◌then◌else◌}
 use Rattle.qtl_syntax.specs.Tree.{Text}
 use Rattle.monitor_run.specs.Lines.{is_comma, is_plain_byte, is_plain, may_become_plain, IsOdd}
 use Rattle.monitor_run.specs.declared.scan.Found.{Found}

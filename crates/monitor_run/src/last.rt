@@ -28,7 +28,13 @@ fn put_counts<W: Sink>(
     let mut second = Buffer::new();
     let judged = first.format(events).as_bytes();
     let false_ones = second.format(violations).as_bytes();
-    let parts = [b"events ".as_slice(), judged, b" violations ", false_ones, b"\n"];
+    let parts = [
+        b"events ".as_slice(),
+        judged,
+        b" violations ",
+        false_ones,
+        b"\n",
+    ];
     output.put_parts(out, &parts)
 }
 
@@ -79,12 +85,7 @@ fn put_read_fault<W: Sink>(
 }
 
 /// Holds back the last line of a run that ends so after these events.
-fn put_last<W: Sink>(
-    output: &mut Output,
-    out: &mut W,
-    end: End,
-    events: u64,
-) -> Result<(), Failed>
+fn put_last<W: Sink>(output: &mut Output, out: &mut W, end: End, events: u64) -> Result<(), Failed>
     ensures ok { OnOk result (Passes (W.written out.old) (W.written out.new) output.old output.new (last_line end events)) }
     ensures err { OnErr result (AppendsFront (W.written out.old) (W.written out.new) (output.old ++ last_line end events)) }
     ensures cause { HasCause (W.faults out.old) (W.faults out.new) result }
@@ -103,12 +104,7 @@ fn put_last<W: Sink>(
 }
 
 /// Writes the last line, and all that was held back before it.
-fn send_last<W: Sink>(
-    output: &mut Output,
-    out: &mut W,
-    end: End,
-    events: u64,
-) -> Result<(), Failed>
+fn send_last<W: Sink>(output: &mut Output, out: &mut W, end: End, events: u64) -> Result<(), Failed>
     ensures ok { OnOk result (Appends (W.written out.old) (W.written out.new) (output.old ++ last_line end events)) }
     ensures err { OnErr result (AppendsFront (W.written out.old) (W.written out.new) (output.old ++ last_line end events)) }
     ensures cause { HasCause (W.faults out.old) (W.faults out.new) result }

@@ -117,7 +117,10 @@ pub fn read_log<S: Source, W: Sink>(
     'pieces: while taken < limit {
         let most = limit - taken;
         match take_turn(&mut judge, &mut buffer, commas, source, output, out, most) {
-            Turn::Judged { count, commas: more } => {
+            Turn::Judged {
+                count,
+                commas: more,
+            } => {
                 taken += count as u64;
                 commas = more;
             }

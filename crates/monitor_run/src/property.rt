@@ -4,14 +4,13 @@ ghost use Rattle.std.specs.Io.KnownBytes.{Consumes, IsAtEnd};
 ghost use Rattle.mon_base.specs.Causes.{Rose};
 ghost use Rattle.qtl_syntax.specs.FirstForms.{IsFirst, IsFirstItems};
 ghost use Rattle.qtl_syntax.specs.Tree as tree;
-ghost use Rattle.qtl_syntax.specs.Tree.{formula_of, items_of};
+ghost use Rattle.qtl_syntax.specs.Tree.{formula_of, item_of, items_of};
 ghost use Rattle.monitor_run.specs.Properties.{SpecIs, SpecRefused, IsSpelled, IsUnspelled, PropertyRead};
 ghost use Rattle.monitor_run.specs.Watching.{StandsAt};
 
-use crate::MAX_SPEC;
 use crate::end::{End, Which};
 use crate::judge::Judge;
-use crate::watch;
+use crate::{MAX_SPEC, watch};
 use mon_base::{Files, NoMemory, OpenEnd, Source};
 use qtl_syntax::{FirstEnd, Formula, Item, Spec, Text, parse};
 use std::alloc::Global;
@@ -99,6 +98,21 @@ struct Property {
     body: Formula,
 }
 
+/// The parts of an item that is a property.
+fn property_of(item: Item) -> Property
+    requires { IsFirstItems (item_of item ∷ []) }
+    ensures { item_of item ≡ tree.Prop result.name (formula_of result.body) }
+{
+    match item {
+        Item::Prop { name, body } => Property { name, body },
+        Item::Pred {
+            name: _name,
+            params: _params,
+            body: _body,
+        } => unreachable!(),
+    }
+}
+
 /// The one property of a specification of the first forms.
 fn only_property(spec: Spec) -> Property
     requires { IsFirstItems (items_of spec) }
@@ -106,8 +120,8 @@ fn only_property(spec: Spec) -> Property
 {
     let Spec { mut items } = spec;
     match items.pop() {
-        Some(Item::Prop { name, body }) => Property { name, body },
-        _other => unreachable!(),
+        Some(item) => property_of(item),
+        None => unreachable!(),
     }
 }
 
@@ -141,11 +155,7 @@ pub fn judge_in(alloc: Global, text: &[u8]) -> Result<Judge, End>
 }
 
 /// The judge of the property in the specification file of this name.
-pub fn read_property<F: Files>(
-    alloc: Global,
-    name: &str,
-    files: &mut F,
-) -> Result<Judge, End>
+pub fn read_property<F: Files>(alloc: Global, name: &str, files: &mut F) -> Result<Judge, End>
     ensures ok { IfOk result (λ judge. PropertyRead (F.texts files.old) name.now judge) }
     ensures err { IfErr result (λ end. SpecRefused (F.texts files.old) name.now (Rose (F.faults files.old) (F.faults files.new)) end) }
     ensures texts { F.texts files.new ≡ F.texts files.old }

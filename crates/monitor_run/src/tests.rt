@@ -1,5 +1,5 @@
 //! Runs over memory, and one of the reading of a log with a small limit.
-ghost use Rattle.std.specs.Prelude.{◌≡◌, ◌≤◌, ◌<◌, All, IfOk};
+ghost use Rattle.std.specs.Prelude.{◌≡◌, ◌^◌, ◌<◌, ◌≤◌, All, IfOk};
 
 use crate::end::{End, Outcome};
 use crate::line_buffer::LineBuffer;
@@ -100,7 +100,7 @@ struct Case {
     status: u8,
 }
 
-fn case(spec: &'static str, log: &'static str, report: &'static str, status: u8) -> Case {
+fn row(spec: &'static str, log: &'static str, report: &'static str, status: u8) -> Case {
     Case {
         spec,
         log,
@@ -113,29 +113,59 @@ fn case(spec: &'static str, log: &'static str, report: &'static str, status: u8)
 fn reports_in_pieces_of_any_size(rt: HostRuntime) -> Result<(), Fail> {
     let alloc = rt.alloc();
     let cases = [
-        case(SINCE, "go,a\nstop,a\n", "violation 2 r\nevents 2 violations 1\n", 1),
-        case(SINCE, "", "events 0 violations 0\n", 0),
-        case(SINCE, "go,a\ngo,b\n", "events 2 violations 0\n", 0),
-        case(SINCE, "go,b\ngo,a\nstop,b\n", "violation 1 r\nevents 3 violations 1\n", 1),
-        case(SINCE, "go,a\ngo,\"a\"\n", "stopped: not built\n", 8),
-        case(SINCE, "stop,a\n\ngo,a\n", "violation 1 r\nstopped: not built\n", 8),
-        case(SINCE, "go,a\nstop,a", "stopped: not built\n", 8),
-        case(SINCE, "go a\n", "stopped: not built\n", 8),
-        case("prop r : P go", "go\n", "stopped: not built\n", 8),
-        case("prop r : go prop s : go", "go\n", "stopped: not built\n", 8),
-        case("prop r : p(\"a,b\")", "p,a,b\n", "violation 1 r\nevents 1 violations 1\n", 1),
-        case("prop r : p(\"\",7)", "p,,7\np,,07\n", "violation 2 r\nevents 2 violations 1\n", 1),
-        case("prop r : a S (b S c)", "c\nb\na\nb\n", "violation 4 r\nevents 4 violations 1\n", 1),
+        row(
+            SINCE,
+            "go,a\nstop,a\n",
+            "violation 2 r\nevents 2 violations 1\n",
+            1,
+        ),
+        row(SINCE, "", "events 0 violations 0\n", 0),
+        row(SINCE, "go,a\ngo,b\n", "events 2 violations 0\n", 0),
+        row(
+            SINCE,
+            "go,b\ngo,a\nstop,b\n",
+            "violation 1 r\nevents 3 violations 1\n",
+            1,
+        ),
+        row(SINCE, "go,a\ngo,\"a\"\n", "stopped: not built\n", 8),
+        row(
+            SINCE,
+            "stop,a\n\ngo,a\n",
+            "violation 1 r\nstopped: not built\n",
+            8,
+        ),
+        row(SINCE, "go,a\nstop,a", "stopped: not built\n", 8),
+        row(SINCE, "go a\n", "stopped: not built\n", 8),
+        row("prop r : P go", "go\n", "stopped: not built\n", 8),
+        row("prop r : go prop s : go", "go\n", "stopped: not built\n", 8),
+        row(
+            "prop r : p(\"a,b\")",
+            "p,a,b\n",
+            "violation 1 r\nevents 1 violations 1\n",
+            1,
+        ),
+        row(
+            "prop r : p(\"\",7)",
+            "p,,7\np,,07\n",
+            "violation 2 r\nevents 2 violations 1\n",
+            1,
+        ),
+        row(
+            "prop r : a S (b S c)",
+            "c\nb\na\nb\n",
+            "violation 4 r\nevents 4 violations 1\n",
+            1,
+        ),
     ];
-    for row in &cases {
+    for case in &cases {
         for size in [1usize, 7, 1000] {
-            let spec = file_of(alloc, "s", row.spec, size, None)?;
-            let log = file_of(alloc, "l", row.log, size, None)?;
+            let spec = file_of(alloc, "s", case.spec, size, None)?;
+            let log = file_of(alloc, "l", case.log, size, None)?;
             let mut files = files_of(alloc, spec, log)?;
             let mut out = MemSink::open(alloc, 1000)?;
             let outcome = run_over(alloc, &["s", "l"], &mut files, &mut out)?;
-            assert_eq!(rt; out.bytes(), row.report.as_bytes(), "{} on {}", row.spec, row.log);
-            assert_eq!(rt; outcome.status, row.status, "{} on {}", row.spec, row.log);
+            assert_eq!(rt; out.bytes(), case.report.as_bytes());
+            assert_eq!(rt; outcome.status, case.status);
         }
     }
     Ok(())
@@ -253,24 +283,27 @@ fn limits_are_met_and_not_passed(rt: HostRuntime) -> Result<(), Fail> {
     Ok(())
 }
 
+/// How a log of two records and twelve bytes ends that may have at most `limit` bytes.
+fn end_of_log(alloc: Global, limit: u64) -> Result<End, Fail>
+    requires { limit < 2 ^ 63 }
+{
+    let Ok(judge) = judge_in(alloc, SINCE.as_bytes()) else {
+        return Err(Fail::from("no judge"));
+    };
+    let bytes = Vec::from_slice(alloc, b"go,a\nstop,a\n")?;
+    let mut source = MemSource::new(bytes, pieces_of(alloc, 3)?, Vec::new(alloc));
+    let mut output = Output::open(alloc)?;
+    let mut out = MemSink::open(alloc, 100)?;
+    let buffer = LineBuffer::open(alloc)?;
+    let reached = read_log(judge, buffer, &mut source, &mut output, &mut out, limit);
+    Ok(reached.end)
+}
+
 #[test]
 fn a_log_is_read_up_to_its_limit(rt: HostRuntime) -> Result<(), Fail> {
     let alloc = rt.alloc();
-    for (limit, end) in [
-        (4, End::LogTooLong { limit: 4 }),
-        (11, End::LogTooLong { limit: 11 }),
-        (12, End::Violated { count: 1 }),
-    ] {
-        let Ok(judge) = judge_in(alloc, SINCE.as_bytes()) else {
-            return Err(Fail::from("no judge"));
-        };
-        let bytes = Vec::from_slice(alloc, b"go,a\nstop,a\n")?;
-        let mut source = MemSource::new(bytes, pieces_of(alloc, 3)?, Vec::new(alloc));
-        let mut output = Output::open(alloc)?;
-        let mut out = MemSink::open(alloc, 100)?;
-        let buffer = LineBuffer::open(alloc)?;
-        let reached = read_log(judge, buffer, &mut source, &mut output, &mut out, limit);
-        assert_eq!(rt; reached.end, end);
-    }
+    assert_eq!(rt; end_of_log(alloc, 4)?, End::LogTooLong { limit: 4 });
+    assert_eq!(rt; end_of_log(alloc, 11)?, End::LogTooLong { limit: 11 });
+    assert_eq!(rt; end_of_log(alloc, 12)?, End::Violated { count: 1 });
     Ok(())
 }

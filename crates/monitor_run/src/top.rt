@@ -12,12 +12,7 @@ use std::alloc::Global;
 use std::sync::ledger::Ledger;
 
 /// The end of a run.
-fn run_to_end<F: Files, W: Sink>(
-    alloc: Global,
-    words: &[String],
-    files: &mut F,
-    out: &mut W,
-) -> End
+fn run_to_end<F: Files, W: Sink>(alloc: Global, words: &[String], files: &mut F, out: &mut W) -> End
     ensures bytes { IfSome (F.texts files.old) (λ texts. Writes texts (map string_bytes words.now) (Rose (F.faults files.old) (F.faults files.new)) (W.written out.old) (W.written out.new) result) }
     ensures cause { HasFaultCause (Rose (F.faults files.old) (F.faults files.new)) (Rose (W.faults out.old) (W.faults out.new)) result }
     ensures usage { result ≡ End.Usage → length words.now ≢ 2 }

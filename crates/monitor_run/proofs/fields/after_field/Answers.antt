@@ -1,4 +1,4 @@
-use Rattle.std.proofs.Common.{◌≡◌, ◌<◌, length, ◌∙◌, ap, ◌∷◌, [], arith}
+use Rattle.std.proofs.Common.{◌<◌, length, ◌∙◌, ap, ◌∷◌, [], arith}
 use Rattle.monitor_run.proofs.FieldLemmas.{one_field, first_field, other_field, field_at}
 use Rattle.monitor_run.proofs.fields.after_field.Goals as goal
 

@@ -1,4 +1,4 @@
-use Rattle.std.proofs.Common.{◌≡◌, ap, [], drop, length, ◌≤◌, arith}
+use Rattle.std.proofs.Common.{◌≡◌, ap, [], drop, arith}
 use Rattle.std.proofs.Math.ListN.{drop_of_length-le}
 use Rattle.qtl_truth.specs.Truth.{texts_of}
 use Rattle.monitor_run.proofs.FieldLemmas.{args_end, swap_not}

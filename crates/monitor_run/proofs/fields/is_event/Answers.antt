@@ -4,6 +4,7 @@ use Rattle.monitor_run.proofs.FieldLemmas.{other_event}
 use Rattle.monitor_run.proofs.fields.is_event.Goals as goal
 
 pub returns-in-Other : goal.returns-in-Other
-returns-in-Other c =
-    (λ no. let never : false ≡ true = no in cc,
-    λ h. absurd (other_event c.args.line.now c.args.name.now (texts_of [] c.args.terms.now) (λ others e. c.in-Other.ensures others (e ∙ ap (λ t. t ∷ others) (sym c.bytes.ensures))) h))
+returns-in-Other c = (
+  λ no. let never : false ≡ true = no in cc,
+  λ h. absurd (other_event c.args.line.now c.args.name.now (texts_of [] c.args.terms.now) (λ others e. c.in-Other.ensures others (e ∙ ap (λ t. t ∷ others) (sym c.bytes.ensures))) h),
+)

@@ -1,4 +1,4 @@
-use Rattle.std.proofs.Common.{◌≡◌, ◌++◌, [], Bool, true, false, refl, sym, subst, add-zero}
+use Rattle.std.proofs.Common.{Bool, true, false, refl, sym, subst, add-zero}
 use Rattle.mon_base.proofs.Appending.{on_err}
 use Rattle.monitor_run.proofs.Judging.{Stepped, watching_more, cut_short}
 use Rattle.monitor_run.proofs.Passages.{passes_none}

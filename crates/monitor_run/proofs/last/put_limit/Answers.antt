@@ -1,5 +1,5 @@
-use Rattle.std.proofs.Common.{◌≡◌, ◌∙◌, ◌++◌, ap, subst, List, ℕ}
-use Rattle.std.specs.Prelude.{OnOk, OnErr, codes, decimal}
+use Rattle.std.proofs.Common.{◌∙◌, ◌++◌, ap, subst, List, ℕ}
+use Rattle.std.specs.Prelude.{OnOk, OnErr, codes}
 use Rattle.mon_base.specs.Told.{AppendsFront}
 use Rattle.monitor_run.specs.Passing.{Passes}
 use Rattle.monitor_run.proofs.last.put_limit.Goals as goal

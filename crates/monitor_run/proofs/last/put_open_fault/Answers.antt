@@ -1,4 +1,3 @@
-use Rattle.std.proofs.Common.{◌≡◌}
 use Rattle.monitor_run.proofs.last.put_open_fault.Goals as goal
 
 pub returns-in-Spec-clause-ok : goal.returns-in-Spec-clause-ok

@@ -1,4 +1,3 @@
-use Rattle.std.proofs.Common.{◌≡◌}
 use Rattle.mon_base.proofs.Appending.{on_err}
 use Rattle.monitor_run.proofs.Passages.{front_flushed}
 use Rattle.monitor_run.proofs.last.send_last.Goals as goal

@@ -1,4 +1,4 @@
-use Rattle.std.proofs.Common.{◌≡◌, ◌∙◌, ap, [], arith, subst}
+use Rattle.std.proofs.Common.{◌∙◌, ap, arith}
 use Rattle.monitor_run.specs.Buffers.{held_of}
 use Rattle.monitor_run.specs.Lines.{may_become_plain}
 use Rattle.monitor_run.proofs.LogLemmas.{read_ended, read_failed, read_long, read_short}

@@ -1,7 +1,7 @@
-use Rattle.std.proofs.Common.{◌≡◌, ◌≤◌, ◌+◌, ◌-◌, ◌∙◌, ◌++◌, length, sym, subst, arith, length-append}
+use Rattle.std.proofs.Common.{◌++◌, sym, subst, arith, length-append}
 use Rattle.qtl_syntax.specs.FirstForms.{IsFirst}
 use Rattle.monitor_run.specs.Buffers.{held_of}
-use Rattle.monitor_run.proofs.LogLemmas.{walked_start, read_ended, read_odd, read_failed, read_short}
+use Rattle.monitor_run.proofs.LogLemmas.{read_ended, read_odd, read_failed, read_short}
 use Rattle.monitor_run.proofs.log.read_log.Goals as goal
 
 pub pieces-preserved : goal.pieces-preserved

@@ -1,4 +1,4 @@
-use Rattle.std.proofs.Common.{◌≡◌, ◌≤◌, ◌+◌, ◌-◌, ℕ, List, [], true, length}
+use Rattle.std.proofs.Common.{◌≡◌, ◌≤◌, ◌+◌, ◌-◌, [], true, length}
 use Rattle.std.specs.Prelude.{count_by}
 use Rattle.qtl_syntax.specs.Tree.{Text, Formula}
 use Rattle.qtl_syntax.specs.FirstForms.{IsFirst}

@@ -1,4 +1,4 @@
-use Rattle.std.proofs.Common.{◌≡◌, ◌∙◌, ◌+◌, ◌-◌, ◌++◌, ap, sym, drop, length, zero, refl, arith, rules, length-drop}
+use Rattle.std.proofs.Common.{◌≡◌, ◌∙◌, ◌+◌, ◌-◌, ◌++◌, ap, drop, length, refl, arith, rules, length-drop}
 use Rattle.monitor_run.proofs.PieceLemmas.{piece_none, piece_more, piece_cut, suffix_more}
 use Rattle.monitor_run.proofs.piece.judge_piece.Goals as goal
 

@@ -1,7 +1,6 @@
-use Rattle.std.proofs.Common.{◌≡◌, ◌≤◌, ◌<◌, ◌+◌, ◌-◌, ◌^◌, ℕ, List, Bool, true, Option, length, take, drop}
+use Rattle.std.proofs.Common.{◌≡◌, ◌≤◌, ◌+◌, ◌-◌, ℕ, List, Bool, true, Option, length, take, drop}
 use Rattle.std.specs.Prelude.{count_by}
 use Rattle.qtl_syntax.specs.Tree.{Text, Formula}
-use Rattle.qtl_syntax.specs.FirstForms.{IsFirst}
 use Rattle.monitor_run.specs.Lines.{is_comma, may_become_plain}
 use Rattle.monitor_run.specs.Pieces.{PieceJudged}
 use Rattle.monitor_run.specs.Stands.{formula_of_node}

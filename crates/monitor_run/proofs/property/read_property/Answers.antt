@@ -1,4 +1,3 @@
-use Rattle.std.proofs.Common.{◌≡◌}
 use Rattle.monitor_run.proofs.PropertyLemmas.{read_ok, read_err}
 use Rattle.monitor_run.proofs.property.read_property.Goals as goal
 

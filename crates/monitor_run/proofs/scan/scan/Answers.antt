@@ -1,5 +1,5 @@
-use Rattle.std.proofs.Common.{◌≡◌, ◌∙◌, sym}
-use Rattle.monitor_run.proofs.Scanned.{scan_odd, scan_more, scan_line, scan_empty}
+use Rattle.std.proofs.Common.{◌∙◌, sym}
+use Rattle.monitor_run.proofs.Scanned.{scan_odd, scan_more}
 use Rattle.monitor_run.proofs.scan.scan.Goals as goal
 
 pub returns-in-None : goal.returns-in-None

@@ -1,4 +1,4 @@
-use Rattle.std.proofs.Common.{◌≡◌, ◌≤◌, length, take}
+use Rattle.std.proofs.Common.{◌≡◌, take}
 use Rattle.std.specs.Prelude.{true, count_by}
 use Rattle.monitor_run.specs.Lines.{is_comma, may_become_plain}
 use Rattle.monitor_run.proofs.scan.scan.Given as goal

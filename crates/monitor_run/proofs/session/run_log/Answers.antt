@@ -1,4 +1,3 @@
-use Rattle.std.proofs.Common.{◌≡◌}
 use Rattle.monitor_run.proofs.LogTold.{told_log}
 use Rattle.monitor_run.proofs.session.run_log.Goals as goal
 

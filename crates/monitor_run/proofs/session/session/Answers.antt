@@ -1,4 +1,4 @@
-use Rattle.std.proofs.Common.{◌≡◌, ◌∙◌, sym, length, map, string_bytes}
+use Rattle.std.proofs.Common.{◌∙◌, sym, map, string_bytes}
 use Rattle.std.proofs.lemmas.List.{length-map}
 use Rattle.mon_base.specs.Causes.{Rose}
 use Rattle.monitor_run.proofs.BodyTold.{use_told}

@@ -1,4 +1,3 @@
-use Rattle.std.proofs.Common.{◌≡◌}
 use Rattle.monitor_run.proofs.BodyTold.{both_told, refused_told}
 use Rattle.monitor_run.proofs.session.two_files.Goals as goal
 

@@ -1,5 +1,4 @@
-use Rattle.std.proofs.Common.{◌≡◌}
-use Rattle.monitor_run.proofs.Ending.{ended_told, ended_cause, ended_usage, usage_ends}
+use Rattle.monitor_run.proofs.Ending.{ended_told}
 use Rattle.monitor_run.proofs.top.run_to_end.Goals as goal
 
 pub returns-clause-bytes : goal.returns-clause-bytes

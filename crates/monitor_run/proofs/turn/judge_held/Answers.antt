@@ -1,4 +1,3 @@
-use Rattle.std.proofs.Common.{◌≡◌}
 use Rattle.monitor_run.proofs.turn.judge_held.Goals as goal
 
 pub returns-in-Err-Odd-clause-turned : goal.returns-in-Err-Odd-clause-turned

@@ -1,4 +1,4 @@
-use Rattle.std.proofs.Common.{◌≡◌, ◌+◌, length}
+use Rattle.std.proofs.Common.{◌+◌, length}
 use Rattle.monitor_run.proofs.Turning.{watching_sent, walked_still, walk_cut, turns, counts, never_reads}
 use Rattle.monitor_run.specs.Buffers.{held_of}
 use Rattle.monitor_run.proofs.turn.take_turn.Goals as goal

@@ -1,4 +1,3 @@
-use Rattle.std.proofs.Common.{◌≡◌}
 use Rattle.monitor_run.proofs.BufferLemmas.{held_less}
 use Rattle.monitor_run.proofs.line_buffer.LineBuffer.drop_front.Goals as goal
 

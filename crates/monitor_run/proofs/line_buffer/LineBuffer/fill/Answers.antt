@@ -1,4 +1,4 @@
-use Rattle.std.proofs.Common.{◌≡◌, ◌≤◌, ◌+◌, ◌-◌, ◌∙◌, ◌++◌, ap, take, drop, length, arith, vec_len}
+use Rattle.std.proofs.Common.{◌≤◌, ◌+◌, ◌-◌, ◌∙◌, ◌++◌, ap, take, drop, length, arith}
 use Rattle.std.proofs.lemmas.List.{with_items_is}
 use Rattle.mon_base.proofs.Appending.{on_err}
 use Rattle.monitor_run.proofs.BufferLemmas.{held_same, held_more, piece_length}

@@ -1,4 +1,4 @@
-use Rattle.std.proofs.Common.{subst, sym, List, ℕ, []}
+use Rattle.std.proofs.Common.{subst, sym, List, ℕ}
 use Rattle.mon_base.proofs.Appending.{on_err}
 use Rattle.monitor_run.specs.Passing.{Passes}
 use Rattle.monitor_run.proofs.Passages.{passes_through, flushed_front}

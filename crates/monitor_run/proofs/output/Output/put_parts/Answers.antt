@@ -1,4 +1,4 @@
-use Rattle.std.proofs.Common.{◌++◌, map, take, drop, ◌+◌, subst, append_assoc, List, ℕ, [], arith}
+use Rattle.std.proofs.Common.{map, drop, ◌+◌, subst, append_assoc, List, ℕ, [], arith}
 use Rattle.std.specs.List.{concat}
 use Rattle.mon_base.specs.Told.{AppendsFront}
 use Rattle.mon_base.proofs.Appending.{on_err}
