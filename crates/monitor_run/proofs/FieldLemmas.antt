@@ -3,9 +3,10 @@ use Rattle.std.proofs.Common.{◌≡◌, ℕ, ◌+◌, ◌<◌, ◌≤◌, ◌�
 use Rattle.std.specs.Prelude.{not, All, Option, Some, None, Bool, IsTrue, IsSomeAnd}
 use Rattle.std.specs.Option.{is_none, option_map}
 use Rattle.std.specs.List.{slice_split}
-use Rattle.std.proofs.Math.Seq.{drop-cons}
+use Rattle.std.proofs.Math.Seq.{drop-cons, take-append_seam}
 use Rattle.std.proofs.lemmas.List.{take_all}
-use Rattle.std.proofs.lemmas.List.Splits.{slice_split_none, slice_split_at, length-slice_split}
+use Rattle.std.specs.List.{join_with_byte}
+use Rattle.std.proofs.lemmas.List.Splits.{slice_split_none, slice_split_at, length-slice_split, join_with_byte-slice_split}
 use Rattle.std.proofs.lemmas.Bool.Decides.{nat_tests}
 use Rattle.std.proofs.lemmas.Bool.{cases_lt}
 use Rattle.qtl_syntax.specs.Tree.{Text}
@@ -29,6 +30,16 @@ at_comma bytes end h e =
 pub first_field : (bytes : Text) (end : ℕ) → end < length bytes → get_or bytes end 0 ≡ 44 → All (λ b. is_comma b ≡ false) (take end bytes) → slice_split is_comma bytes ≡ take end bytes ∷ slice_split is_comma (drop (end + 1) bytes)
 first_field bytes end h e all =
     ap (λ bs. slice_split is_comma bs) (at_comma bytes end h e) ∙ slice_split_at is_comma (take end bytes) 44 (drop (end + 1) bytes) all refl
+
+-- the bytes begin with their first field
+joined_begins : (text : Text) (fields : List Text) → take (length text) (join_with_byte 44 (text ∷ fields)) ≡ text
+joined_begins text [] = take_all (length text) text (omega arith)
+joined_begins text (field ∷ fields) = take-append_seam text (44 ∷ join_with_byte 44 (field ∷ fields))
+
+pub first_begins : (bytes text : Text) (fields : List Text) → slice_split is_comma bytes ≡ text ∷ fields → take (length text) bytes ≡ text
+first_begins bytes text fields e =
+    let whole : join_with_byte 44 (text ∷ fields) ≡ bytes = ap (join_with_byte 44) (sym e) ∙ join_with_byte-slice_split 44 bytes in
+    ap (take (length text)) (sym whole) ∙ joined_begins text fields
 
 -- a first field of another text
 pub other_field : (bytes : Text) (end : ℕ) (fields : List Text) → slice_split is_comma bytes ≡ take end bytes ∷ fields → (text : Text) → (take end bytes ≡ text → ⊥) → (others : List Text) → slice_split is_comma bytes ≡ text ∷ others → ⊥

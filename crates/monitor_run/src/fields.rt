@@ -40,19 +40,23 @@ pub fn bytes_from(bytes: &[u8], n: usize) -> &[u8]
     &bytes[n..]
 }
 
-/// Whether these are the same bytes.
-fn are_same(bytes: &[u8], others: &[u8]) -> bool
-    ensures { IsTrue result ↔ (bytes.now ≡ others.now) }
+/// Whether the bytes begin with the text.
+fn begin_with(bytes: &[u8], text: &[u8]) -> bool
+    ensures { IsTrue result ↔ (take (length text.now) bytes.now ≡ text.now) }
 {
-    bytes == others
+    bytes.starts_with(text)
 }
 
-/// What stands behind the first field of the bytes, where that is this text.
+/// What stands behind the first field of the bytes, where that is this text. Most fields are told by their first bytes,
+/// and only where all bytes of the text stand there is the field's end looked for: the text may have commas.
 fn after_field<'a>(bytes: &'a [u8], text: &[u8]) -> Behind<'a>
     ensures { IsBehind bytes.entry.now text.entry.now result }
 {
+    if !begin_with(bytes, text) {
+        return Behind::Other;
+    }
     let end = field_end(bytes);
-    if !are_same(&bytes[..end], text) {
+    if end != text.len() {
         Behind::Other
     } else if end == bytes.len() {
         Behind::LineEnd
