@@ -1,5 +1,5 @@
 //! A look over the bytes of a line, each byte once.
-ghost use Rattle.std.specs.Prelude.{◌≡◌, ◌≤◌, ◌<◌, ◌&&◌, length, take, true, count_by};
+ghost use Rattle.std.specs.Prelude.{◌≡◌, ◌≤◌, ◌<◌, ◌&&◌, length, take, true, false, IsTrue, count_by};
 ghost use Rattle.monitor_run.specs.Lines.{is_comma, is_plain_byte, may_become_plain};
 ghost use Rattle.monitor_run.specs.Scanning.{Finds, commas_next};
 
@@ -27,11 +27,24 @@ fn is_plain(byte: u8) -> bool
     33 <= byte && byte <= 126 && byte != b'"'
 }
 
+/// Behind the comma and up to ~, as letters and digits are: plain, and no comma. Nearly all bytes of a log are told so.
+fn is_usual(byte: u8) -> bool
+    ensures { IsTrue result → (is_plain_byte byte ≡ true) × (is_comma byte ≡ false) }
+{
+    b',' < byte && byte <= 126
+}
+
 /// The commas of a line after one byte more, or none where no plain line begins so.
 fn commas_after(length: usize, commas: usize, byte: u8) -> Option<usize>
     ensures { result ≡ commas_next length commas byte }
 {
-    if !is_plain(byte) || length >= MAX_LINE {
+    if length >= MAX_LINE {
+        return None;
+    }
+    if is_usual(byte) {
+        return Some(commas);
+    }
+    if !is_plain(byte) {
         return None;
     }
     if byte != b',' {
@@ -53,17 +66,16 @@ pub fn scan(bytes: &[u8], seen: usize, commas: usize) -> Found
     let mut commas = commas;
     for i in seen..bytes.len() {
         let byte = bytes[i];
-        if byte == b'\n' {
-            return if i == 0 {
-                Found::Odd
-            } else {
-                Found::Line { length: i }
-            };
-        }
-        match commas_after(i, commas, byte) {
-            Some(more) => commas = more,
-            None => return Found::Odd,
-        }
+        let Some(more) = commas_after(i, commas, byte) else {
+            if byte != b'\n' {
+                return Found::Odd;
+            }
+            if i == 0 {
+                return Found::Odd;
+            }
+            return Found::Line { length: i };
+        };
+        commas = more;
     }
     Found::More { commas }
 }

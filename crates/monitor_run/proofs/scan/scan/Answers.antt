@@ -2,9 +2,9 @@ use Rattle.std.proofs.Common.{◌∙◌, sym}
 use Rattle.monitor_run.proofs.Scanned.{scan_odd, scan_more}
 use Rattle.monitor_run.proofs.scan.scan.Goals as goal
 
-pub returns-in-None : goal.returns-in-None
-returns-in-None c =
-    scan_odd c.args.bytes.now c.loop-i.i c.loop-i.commas c.loop-i-test.true c.loop-i.invariant.begun c.loop-i.invariant.counted c.if-byte-eq10.false (sym c.commas_after.ensures ∙ c.in-None.is)
+pub returns-then-byte-ne10 : goal.returns-then-byte-ne10
+returns-then-byte-ne10 c =
+    scan_odd c.args.bytes.now c.loop-i.i c.loop-i.commas c.loop-i-test.true c.loop-i.invariant.begun c.loop-i.invariant.counted c.if-byte-ne10.true (sym c.commas_after.ensures ∙ c.in_default.is)
 
 pub loop-i-preserved : goal.loop-i-preserved
 loop-i-preserved c =
