@@ -6,6 +6,8 @@ mod Judging
 mod LogLemmas
 mod LogTold
 mod More
+mod OneCut
+mod OneReport
 mod Passages
 mod PieceLemmas
 mod PropertyLemmas

@@ -39,6 +39,15 @@ IsNoFault (ReadFault which) = ⊥
 IsNoFault WriteFault = ⊥
 IsNoFault _ = ⊤
 
+-- an end that the bytes of the files decide: no fault, and no want of memory
+abbrev pub IsDecided : End → Type 0
+IsDecided AllTrue = ⊤
+IsDecided (Violated count) = ⊤
+IsDecided Usage = ⊤
+IsDecided NotBuilt = ⊤
+IsDecided (LogTooLong limit) = ⊤
+IsDecided _ = ⊥
+
 -- the last line of a run that judged so many events
 abbrev pub last_line : End → ℕ → Text
 last_line AllTrue events = codes "events " ++ (decimal events ++ (codes " violations " ++ (decimal 0 ++ codes "\n")))
@@ -117,6 +126,10 @@ pub record IsAnswer (texts : List (Text × Text)) (words : List Text) (end : End
   pub body : Text
   pub reached : IsBodyFor texts words end events body
   pub whole : bytes ≡ body ++ last_line end events
+
+-- where the bytes decide an end, that is the end, but for faults and want of memory
+abbrev pub IsExact : List (Text × Text) → List Text → End → Type 0
+IsExact texts words end = (due : End) (bytes : Text) → IsDecided due → IsAnswer texts words due bytes → IsDecided end → end ≡ due
 
 -- a front of the violations of whole lines at the front of the log
 pub record IsFrontOfLines (spec log : Option Text) (front : Text) : Type 0 where

@@ -1,7 +1,7 @@
 //! The top call.
 ghost use Rattle.std.specs.Prelude.{◌≡◌, ◌≢◌, ◌≤◌, ◌⊎◌, map, length, IfSome, string_bytes};
 ghost use Rattle.mon_base.specs.Causes.{Rose};
-ghost use Rattle.monitor_run.specs.Answer.{HasFaultCause, Writes, status_of};
+ghost use Rattle.monitor_run.specs.Answer.{HasFaultCause, IsExact, Writes, status_of};
 
 use crate::end::{End, Outcome};
 use crate::last::finish;
@@ -14,6 +14,7 @@ use std::sync::ledger::Ledger;
 /// The end of a run.
 fn run_to_end<F: Files, W: Sink>(alloc: Global, words: &[String], files: &mut F, out: &mut W) -> End
     ensures bytes { IfSome (F.texts files.old) (λ texts. Writes texts (map string_bytes words.now) (Rose (F.faults files.old) (F.faults files.new)) (W.written out.old) (W.written out.new) result) }
+    ensures exact { IfSome (F.texts files.old) (λ texts. IsExact texts (map string_bytes words.now) result) }
     ensures cause { HasFaultCause (Rose (F.faults files.old) (F.faults files.new)) (Rose (W.faults out.old) (W.faults out.new)) result }
     ensures usage { result ≡ End.Usage → length words.now ≢ 2 }
     ensures other_words { length words.now ≢ 2 → (result ≡ End.Usage) ⊎ ((result ≡ End.WriteFault) ⊎ (result ≡ End.NoMemory)) }
@@ -43,6 +44,8 @@ pub fn run<F: Files, W: Sink, L: Ledger>(
 ) -> Outcome
     // What is written is the report of the property's truth at each event, as the files' bytes have it, and its last line.
     ensures report { IfSome (F.texts files.old) (λ texts. Writes texts (map string_bytes words.now) (Rose (F.faults files.old) (F.faults files.new)) (W.written out.old) (W.written out.new) result.end) }
+    // An end that the bytes decide comes for no other bytes, and for these no other end comes but a fault or want of memory.
+    ensures exact { IfSome (F.texts files.old) (λ texts. IsExact texts (map string_bytes words.now) result.end) }
     ensures status { result.status ≡ status_of result.end }
     ensures dropped { result.dropped ≡ 0 }
 

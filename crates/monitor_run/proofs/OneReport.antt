@@ -1,0 +1,221 @@
+-- The bytes of the files decide one end, and one report.
+use Rattle.std.proofs.Common.{◌≡◌, ◌≢◌, ℕ, zero, suc, ◌+◌, ◌-◌, ◌<◌, ◌≤◌, ◌⊎◌, ◌↔◌, inl, inr, List, [], ◌∷◌, ◌++◌, length, take, drop, map, refl, sym, ap, ◌∙◌, subst, arith, Bool, true, false, append-nil}
+use Rattle.std.specs.Prelude.{Option, Some, None, IfSome, IsSomeAnd, slice_get, ⊤}
+use Rattle.std.specs.List.{list_all}
+use Rattle.std.proofs.lemmas.List.{take-append-drop}
+use Rattle.qtl_syntax.specs.Tree.{Text, Formula, Item, Prop}
+use Rattle.qtl_syntax.specs.FirstForms.{SpellsFirst}
+use Rattle.qtl_syntax.proofs.FirstLaw.{spelled_once}
+use Rattle.qtl_truth.specs.declared.event.Event.{Event}
+use Rattle.qtl_truth.specs.Truth.{Holds}
+use Rattle.mon_base.specs.Told.{text_of}
+use Rattle.monitor_run.specs.Answer.{Judged, WholeLog, LogBody, Checked, IsProperty, IsNotBuilt, IsBody, IsBodyFor, IsAnswer, IsDecided, IsExact, Writes, last_line}
+use Rattle.monitor_run.specs.Lines.{is_plain, event_of, text_of_lines}
+use Rattle.monitor_run.specs.Report.{violation_lines}
+use Rattle.monitor_run.specs.Verdicts.{AreVerdicts, false_count}
+use Rattle.monitor_run.specs.declared.TheConstants.{MAX_SPEC, MAX_LOG}
+use Rattle.monitor_run.specs.declared.end.End.{End}
+use Rattle.monitor_run.specs.declared.end.End.TheVariants.{AllTrue, Violated, Usage, NotBuilt, LogTooLong, OpenFault, ReadFault, WriteFault, NoMemory}
+use Rattle.monitor_run.specs.declared.end.Which.TheVariants.{Spec, Log}
+use Rattle.monitor_run.proofs.OneCut.{Close, Closes, Whole, Odd, Long, closes_once}
+
+-- the verdicts are those of the formula's truth, so there is one list of them
+
+same_bool : (a b : Bool) → (Some a ≡ Some true) ↔ (Some b ≡ Some true) → a ≡ b
+same_bool true true e = refl
+same_bool true false e = let h = e.0 refl in let never : false ≡ true = cc in cc
+same_bool false true e = let h = e.1 refl in let never : false ≡ true = cc in cc
+same_bool false false e = refl
+
+same_bools : (vs ws : List Bool) → length vs ≡ length ws → ((i : ℕ) → i < length vs → (slice_get vs i ≡ Some true) ↔ (slice_get ws i ≡ Some true)) → vs ≡ ws
+same_bools [] [] n each = refl
+same_bools [] (w ∷ ws) n each = absurd (omega arith)
+same_bools (v ∷ vs) [] n each = absurd (omega arith)
+same_bools (v ∷ vs) (w ∷ ws) n each =
+    let first : v ≡ w = same_bool v w (each 0 (omega arith)) in
+    let rest : vs ≡ ws = same_bools vs ws (omega (arith, n)) (λ i h. each (suc i) (omega (arith, h))) in
+    cc
+
+one_verdicts : (log : List Event) (f : Formula) (vs ws : List Bool) → AreVerdicts log f vs → AreVerdicts log f ws → vs ≡ ws
+one_verdicts log f vs ws a b =
+    same_bools vs ws (a.count ∙ sym b.count) (λ i h.
+    let place : i + 1 - 1 ≡ i = omega arith in
+    let high : i + 1 ≤ length log = let n = a.count in omega (arith, n, h) in
+    let x = a.each (i + 1) (omega arith) high in
+    let y = b.each (i + 1) (omega arith) high in
+    subst (λ (k : ℕ). (slice_get vs k ≡ Some true) ↔ (slice_get ws k ≡ Some true)) place (λ e. y.1 (x.0 e), λ e. x.1 (y.0 e)))
+
+-- the end of a log that ends so, with so many false verdicts
+abbrev end_of : Close → ℕ → End
+end_of Whole zero = AllTrue
+end_of Whole (suc n) = Violated (suc n)
+end_of Odd n = NotBuilt
+end_of Long n = LogTooLong MAX_LOG
+
+-- all that the log decides: how it ends, its lines, and the report
+record Reading (name : Text) (f : Formula) (log : Option Text) (end : End) (report : Text) : Type 0 where
+  all : Text
+  given : log ≡ Some all
+  close : Close
+  lines : List Text
+  plain : list_all is_plain lines ≡ true
+  closes : Closes MAX_LOG all close lines
+  verdicts : List Bool
+  right : AreVerdicts (map event_of lines) f verdicts
+  reached : end ≡ end_of close (false_count verdicts)
+  written : report ≡ violation_lines 1 name verdicts ++ last_line end (length verdicts)
+
+one_reading : (name : Text) (f : Formula) (log : Option Text) (end due : End) (report other : Text) → Reading name f log end report → Reading name f log due other →
+    (end ≡ due) × (report ≡ other)
+one_reading name f log end due report other a b =
+    let same_log : a.all ≡ b.all = let p = a.given in let q = b.given in cc in
+    let c = closes_once MAX_LOG a.all a.close b.close a.lines b.lines a.plain b.plain a.closes (subst (λ (l : Text). Closes MAX_LOG l b.close b.lines) (sym same_log) b.closes) in
+    let vs : a.verdicts ≡ b.verdicts = one_verdicts (map event_of a.lines) f a.verdicts b.verdicts a.right (subst (λ (l : List Text). AreVerdicts (map event_of l) f b.verdicts) (sym c.1) b.right) in
+    let e : end ≡ due = a.reached ∙ ap (λ (k : Close). end_of k (false_count a.verdicts)) c.0 ∙ ap (λ (v : List Bool). end_of b.close (false_count v)) vs ∙ sym b.reached in (
+      e,
+      a.written ∙ ap (λ (d : End). violation_lines 1 name a.verdicts ++ last_line d (length a.verdicts)) e
+          ∙ ap (λ (v : List Bool). violation_lines 1 name v ++ last_line due (length v)) vs ∙ sym b.written,
+    )
+
+some_of : {A : Type 0} (o : Option A) (P : A → Type 0) → IsSomeAnd o P → (x : A) × (o ≡ Some x) × P x
+some_of (Some x) P h = (x, refl, h)
+some_of None P h = absurd h
+
+-- an end that doesn't tell the number of events has one last line
+read_whole : (name : Text) (f : Formula) (log : Option Text) (end : End) (events violations : ℕ) (body : Text) → end ≡ end_of Whole violations → WholeLog name f log events violations body →
+    Reading name f log end (body ++ last_line end events)
+read_whole name f log end events violations body e h =
+    let s = some_of log _ h in
+    let (verdicts, judged, fits, count, bad) = s.2 in
+    record {
+      all = s.0;
+      given = s.1;
+      close = Whole;
+      lines = judged.lines;
+      plain = judged.plain;
+      closes = (judged.cut, fits);
+      verdicts = verdicts;
+      right = judged.right;
+      reached = e ∙ ap (end_of Whole) bad;
+      written = ap (λ (l : Text). l ++ last_line end events) judged.written ∙ ap (λ (n : ℕ). violation_lines 1 name verdicts ++ last_line end n) count;
+    }
+
+reading : (name : Text) (f : Formula) (log : Option Text) (end : End) (events : ℕ) (body : Text) → IsDecided end → LogBody end name f log events body → Reading name f log end (body ++ last_line end events)
+reading name f log AllTrue events body d h = read_whole name f log AllTrue events 0 body refl h
+reading name f log (Violated zero) events body d h = absurd (omega (arith, h.0))
+reading name f log (Violated (suc n)) events body d h = read_whole name f log (Violated (suc n)) events (suc n) body refl h.1
+reading name f log NotBuilt events body d h =
+    let s = some_of log _ h in
+    let (given, rest, begun, verdicts, split, fits, judged, odd_end) = s.2 in
+    record {
+      all = s.0;
+      given = s.1;
+      close = Odd;
+      lines = judged.lines;
+      plain = judged.plain;
+      closes = (rest, begun, split ∙ ap (λ (l : Text). l ++ rest) judged.cut, subst (λ (l : Text). length l ≤ MAX_LOG) judged.cut fits, odd_end);
+      verdicts = verdicts;
+      right = judged.right;
+      reached = refl;
+      written = ap (λ (l : Text). l ++ last_line NotBuilt events) judged.written;
+    }
+reading name f log (LogTooLong limit) events body d h =
+    let s = some_of log _ h.1 in
+    let (begun, verdicts, large, judged, may) = s.2 in
+    record {
+      all = s.0;
+      given = s.1;
+      close = Long;
+      lines = judged.lines;
+      plain = judged.plain;
+      closes = (begun, large, judged.cut, may);
+      verdicts = verdicts;
+      right = judged.right;
+      reached = ap LogTooLong h.0;
+      written = ap (λ (l : Text). l ++ last_line (LogTooLong limit) events) judged.written;
+    }
+reading name f log Usage events body d h = absurd h
+reading name f log (OpenFault which) events body d h = absurd d
+reading name f log (ReadFault which) events body d h = absurd d
+reading name f log WriteFault events body d h = absurd d
+reading name f log NoMemory events body d h = absurd d
+
+-- the specification is one property or none
+
+one_property : (spec : Option Text) (name other : Text) (f g : Formula) → IsProperty spec name f → IsProperty spec other g → (name ≡ other) × (f ≡ g)
+one_property (Some text) name other f g (short, (tokens, cut, spelled, first)) (_, second) =
+    let e = spelled_once text tokens (Prop name f ∷ []) cut spelled (Prop other g ∷ []) second in (cc, cc)
+one_property None name other f g a b = absurd a
+
+property_or_none : (spec : Option Text) (name : Text) (f : Formula) → IsProperty spec name f → IsNotBuilt spec → ⊥
+property_or_none (Some text) name f (short, first) (inl large) = omega (arith, short, large)
+property_or_none (Some text) name f (short, first) (inr none) = none (Prop name f ∷ []) first
+property_or_none None name f a b = a
+
+-- what two words decide: a specification that isn't built, or a property with the report of its log
+abbrev Decision : Option Text → Option Text → End → Text → Type 0
+Decision spec log end report =
+    (IsNotBuilt spec × (end ≡ NotBuilt) × (report ≡ last_line NotBuilt 0)) ⊎ ((name : Text) × (f : Formula) × IsProperty spec name f × Reading name f log end report)
+
+one_decision : (spec log : Option Text) (end due : End) (report other : Text) → Decision spec log end report → Decision spec log due other → (end ≡ due) × (report ≡ other)
+one_decision spec log end due report other (inl (none, e, r)) (inl (_, e', r')) = (e ∙ sym e', r ∙ sym r')
+one_decision spec log end due report other (inl (none, e, r)) (inr (name, f, property, read)) = absurd (property_or_none spec name f property none)
+one_decision spec log end due report other (inr (name, f, property, read)) (inl (none, e, r)) = absurd (property_or_none spec name f property none)
+one_decision spec log end due report other (inr (name, f, property, read)) (inr (name', f', property', read')) =
+    let (same_name, same_formula) = one_property spec name name' f f' property property' in
+    one_reading name f log end due report other read
+    (subst (λ (g : Formula). Reading name g log due other) (sym same_formula) (subst (λ (n : Text). Reading n f' log due other) (sym same_name) read'))
+
+checked : (spec log : Option Text) (end : End) (events : ℕ) (body : Text) → IsDecided end → Checked end spec log events body → Decision spec log end (body ++ last_line end events)
+checked spec log end events body d c = inr (c.name, c.formula, c.property, reading c.name c.formula log end events body d c.log_body)
+
+decision : (spec log : Option Text) (end : End) (events : ℕ) (body : Text) → IsDecided end → IsBody end spec log events body → Decision spec log end (body ++ last_line end events)
+decision spec log AllTrue events body d h = checked spec log AllTrue events body d h
+decision spec log (Violated count) events body d h = checked spec log (Violated count) events body d h
+decision spec log Usage events body d h = checked spec log Usage events body d h
+decision spec log NotBuilt events body d (inl none) = inl (none.0, refl, ap (λ (l : Text). l ++ last_line NotBuilt 0) none.1)
+decision spec log NotBuilt events body d (inr c) = checked spec log NotBuilt events body d c
+decision spec log (LogTooLong limit) events body d h = checked spec log (LogTooLong limit) events body d h
+decision spec log (OpenFault which) events body d h = absurd d
+decision spec log (ReadFault which) events body d h = absurd d
+decision spec log WriteFault events body d h = absurd d
+decision spec log NoMemory events body d h = absurd d
+
+-- other than two words have one report
+usage_report : (end due : End) (events other_events : ℕ) (body other : Text) → (end ≡ Usage) × (body ≡ []) → (due ≡ Usage) × (other ≡ []) →
+    (end ≡ due) × (body ++ last_line end events ≡ other ++ last_line due other_events)
+usage_report end due events other_events body other (e, b) (e', b') = rw (e, b, e', b') (refl, refl)
+
+same_report : (texts : List (Text × Text)) (words : List Text) (end due : End) (events other_events : ℕ) (body other : Text) → IsDecided end → IsDecided due →
+    IsBodyFor texts words end events body → IsBodyFor texts words due other_events other →
+    (end ≡ due) × (body ++ last_line end events ≡ other ++ last_line due other_events)
+same_report texts (spec ∷ log ∷ []) end due events other_events body other d d' a b =
+    one_decision (text_of texts spec) (text_of texts log) end due (body ++ last_line end events) (other ++ last_line due other_events)
+    (decision (text_of texts spec) (text_of texts log) end events body d a) (decision (text_of texts spec) (text_of texts log) due other_events other d' b)
+same_report texts [] end due events other_events body other d d' a b = usage_report end due events other_events body other a b
+same_report texts (one ∷ []) end due events other_events body other d d' a b = usage_report end due events other_events body other a b
+same_report texts (one ∷ two ∷ three ∷ more) end due events other_events body other d d' a b = usage_report end due events other_events body other a b
+
+-- the files' bytes decide at most one end and report
+pub one_report : (texts : List (Text × Text)) (words : List Text) (end due : End) (bytes other : Text) → IsDecided end → IsDecided due →
+    IsAnswer texts words end bytes → IsAnswer texts words due other → (end ≡ due) × (bytes ≡ other)
+one_report texts words end due bytes other d d' a b =
+    let same = same_report texts words end due a.events b.events a.body b.body d d' a.reached b.reached in
+    (same.0, a.whole ∙ same.1 ∙ sym b.whole)
+
+-- so what is written at an end that the bytes decide is exact
+pub written_exact : (texts : List (Text × Text)) (words : List Text) (rose : Type 0) (old new : Option Text) (end : End) → Writes texts words rose old new end → IsExact texts words end
+written_exact texts words rose old new AllTrue (bytes, answer, grown) due other d b d' = (one_report texts words AllTrue due bytes other d' d answer b).0
+written_exact texts words rose old new (Violated count) (bytes, answer, grown) due other d b d' = (one_report texts words (Violated count) due bytes other d' d answer b).0
+written_exact texts words rose old new Usage (bytes, answer, grown) due other d b d' = (one_report texts words Usage due bytes other d' d answer b).0
+written_exact texts words rose old new NotBuilt (bytes, answer, grown) due other d b d' = (one_report texts words NotBuilt due bytes other d' d answer b).0
+written_exact texts words rose old new (LogTooLong limit) (bytes, answer, grown) due other d b d' = (one_report texts words (LogTooLong limit) due bytes other d' d answer b).0
+written_exact texts words rose old new (OpenFault which) h due other d b d' = absurd d'
+written_exact texts words rose old new (ReadFault which) h due other d b d' = absurd d'
+written_exact texts words rose old new WriteFault h due other d b d' = absurd d'
+written_exact texts words rose old new NoMemory h due other d b d' = absurd d'
+
+pub told_exact : (told : Option (List (Text × Text))) (words : List Text) (rose : Type 0) (old new : Option Text) (end : End) →
+    IfSome told (λ texts. Writes texts words rose old new end) → IfSome told (λ texts. IsExact texts words end)
+told_exact (Some texts) words rose old new end w = written_exact texts words rose old new end w
+told_exact None words rose old new end w = tt
