@@ -13,5 +13,6 @@ mod PieceLemmas
 mod PropertyLemmas
 mod ScanLemmas
 mod Scanned
+mod Stepping
 mod Turning
 mod Watched

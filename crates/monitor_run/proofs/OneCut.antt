@@ -1,21 +1,11 @@
 -- A log is cut into its plain lines in one way, and ends in one way.
-use Rattle.std.proofs.Common.{◌≡◌, ◌≢◌, ℕ, ◌+◌, ◌-◌, ◌<◌, ◌≤◌, ◌⊎◌, inl, inr, List, [], ◌∷◌, ◌++◌, length, take, drop, refl, sym, ap, ◌∙◌, subst, arith, Bool, true, false, ◌&&◌, append_assoc, append-nil, length-append}
+use Rattle.std.proofs.Common.{◌≡◌, ℕ, ◌+◌, ◌-◌, ◌<◌, ◌≤◌, ◌⊎◌, inl, inr, List, [], ◌∷◌, ◌++◌, length, take, refl, sym, ap, ◌∙◌, subst, arith, true, false, append_assoc, append-nil}
 use Rattle.std.specs.List.{list_all}
 use Rattle.std.proofs.lemmas.Bool.{and_parts}
-use Rattle.std.proofs.lemmas.List.Folds.{list_all-append}
 use Rattle.std.proofs.Math.Seq.{take-append-add}
 use Rattle.qtl_syntax.specs.Tree.{Text}
 use Rattle.monitor_run.specs.Lines.{is_plain_byte, is_plain, may_become_plain, text_of_lines, BeginsOddly, IsOdd}
-use Rattle.monitor_run.proofs.ScanLemmas.{parts_of}
-
-false_end : (b : Bool) → (b && false) ≡ false
-false_end true = refl
-false_end false = refl
-
--- no line feed stands among plain bytes
-no_feed : (a b : Text) → list_all is_plain_byte (a ++ 10 ∷ b) ≡ true → ⊥
-no_feed a b plain =
-    let never : true ≡ false = sym plain ∙ list_all-append is_plain_byte a (10 ∷ b) ∙ false_end (list_all is_plain_byte a) in cc
+use Rattle.monitor_run.proofs.ScanLemmas.{parts_of, no_feed_among, no_feed}
 
 plain_bytes : (line : Text) → is_plain line ≡ true → list_all is_plain_byte line ≡ true
 plain_bytes [] plain = refl
@@ -25,9 +15,9 @@ plain_bytes (b ∷ bs) plain = (parts_of (b ∷ bs) plain).bytes
 same_line : (line other a b : Text) → list_all is_plain_byte line ≡ true → list_all is_plain_byte other ≡ true → line ++ 10 ∷ a ≡ other ++ 10 ∷ b → (line ≡ other) × (a ≡ b)
 same_line [] [] a b p q e = (refl, cc)
 same_line [] (y ∷ other) a b p q e =
-    let feed : 10 ≡ y = cc in absurd (no_feed [] other (subst (λ (z : ℕ). list_all is_plain_byte (z ∷ other) ≡ true) (sym feed) q))
+    let feed : 10 ≡ y = cc in absurd (no_feed_among [] other (subst (λ (z : ℕ). list_all is_plain_byte (z ∷ other) ≡ true) (sym feed) q))
 same_line (x ∷ line) [] a b p q e =
-    let feed : 10 ≡ x = cc in absurd (no_feed [] line (subst (λ (z : ℕ). list_all is_plain_byte (z ∷ line) ≡ true) (sym feed) p))
+    let feed : 10 ≡ x = cc in absurd (no_feed_among [] line (subst (λ (z : ℕ). list_all is_plain_byte (z ∷ line) ≡ true) (sym feed) p))
 same_line (x ∷ line) (y ∷ other) a b p q e =
     let first : x ≡ y = cc in
     let behind : line ++ 10 ∷ a ≡ other ++ 10 ∷ b = cc in
@@ -65,7 +55,7 @@ no_line_of_none (b ∷ line) more e = let never : ⊥ = cc in absurd never
 
 no_line_begun : (begun : Text) → may_become_plain begun ≡ true → NoLine begun
 no_line_begun begun may line more e =
-    absurd (no_feed line more (subst (λ (l : Text). list_all is_plain_byte l ≡ true) e (parts_of begun may).bytes))
+    absurd (no_feed line more (subst (λ (l : Text). may_become_plain l ≡ true) e may))
 
 stops : (lines others : List Text) (left other_left : Text) → NoLine left → GoesOn lines left others other_left → (lines ≡ others) × (left ≡ other_left)
 stops lines others left other_left none ([], split, plain, cut) = (sym (split ∙ append-nil lines), cut)

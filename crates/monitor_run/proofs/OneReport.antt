@@ -1,22 +1,18 @@
 -- The bytes of the files decide one end, and one report.
-use Rattle.std.proofs.Common.{◌≡◌, ◌≢◌, ℕ, zero, suc, ◌+◌, ◌-◌, ◌<◌, ◌≤◌, ◌⊎◌, ◌↔◌, inl, inr, List, [], ◌∷◌, ◌++◌, length, take, drop, map, refl, sym, ap, ◌∙◌, subst, arith, Bool, true, false, append-nil}
-use Rattle.std.specs.Prelude.{Option, Some, None, IfSome, IsSomeAnd, slice_get, ⊤}
+use Rattle.std.proofs.Common.{◌≡◌, ℕ, zero, suc, ◌+◌, ◌-◌, ◌<◌, ◌≤◌, ◌⊎◌, ◌↔◌, inl, inr, List, [], ◌∷◌, ◌++◌, length, map, refl, sym, ap, ◌∙◌, subst, arith, Bool, true, false}
+use Rattle.std.specs.Prelude.{Option, Some, None, IfSome, IsSomeAnd, slice_get}
 use Rattle.std.specs.List.{list_all}
-use Rattle.std.proofs.lemmas.List.{take-append-drop}
-use Rattle.qtl_syntax.specs.Tree.{Text, Formula, Item, Prop}
-use Rattle.qtl_syntax.specs.FirstForms.{SpellsFirst}
+use Rattle.qtl_syntax.specs.Tree.{Text, Formula, Prop}
 use Rattle.qtl_syntax.proofs.FirstLaw.{spelled_once}
 use Rattle.qtl_truth.specs.declared.event.Event.{Event}
-use Rattle.qtl_truth.specs.Truth.{Holds}
 use Rattle.mon_base.specs.Told.{text_of}
-use Rattle.monitor_run.specs.Answer.{Judged, WholeLog, LogBody, Checked, IsProperty, IsNotBuilt, IsBody, IsBodyFor, IsAnswer, IsDecided, IsExact, Writes, last_line}
-use Rattle.monitor_run.specs.Lines.{is_plain, event_of, text_of_lines}
+use Rattle.monitor_run.specs.Answer.{WholeLog, LogBody, Checked, IsProperty, IsNotBuilt, IsBody, IsBodyFor, IsAnswer, IsDecided, IsExact, Writes, last_line}
+use Rattle.monitor_run.specs.Lines.{is_plain, event_of}
 use Rattle.monitor_run.specs.Report.{violation_lines}
 use Rattle.monitor_run.specs.Verdicts.{AreVerdicts, false_count}
-use Rattle.monitor_run.specs.declared.TheConstants.{MAX_SPEC, MAX_LOG}
+use Rattle.monitor_run.specs.declared.TheConstants.{MAX_LOG}
 use Rattle.monitor_run.specs.declared.end.End.{End}
 use Rattle.monitor_run.specs.declared.end.End.TheVariants.{AllTrue, Violated, Usage, NotBuilt, LogTooLong, OpenFault, ReadFault, WriteFault, NoMemory}
-use Rattle.monitor_run.specs.declared.end.Which.TheVariants.{Spec, Log}
 use Rattle.monitor_run.proofs.OneCut.{Close, Closes, Whole, Odd, Long, closes_once}
 
 -- the verdicts are those of the formula's truth, so there is one list of them

@@ -125,12 +125,14 @@ front_may line more e =
       commas = le_true (count_by is_comma line) 63 (omega arith);
     })
 
--- a line feed stands in no line that may become plain
-pub no_feed : (line more : Text) → may_become_plain (line ++ 10 ∷ more) ≡ true → ⊥
-no_feed line more e =
-    let p = parts_of (line ++ 10 ∷ more) e in
-    let bytes = and_parts (list_all is_plain_byte line) (list_all is_plain_byte (10 ∷ more)) (sym (list_all-append is_plain_byte line (10 ∷ more)) ∙ p.bytes) in
+-- no line feed stands among plain bytes, so none in a line that may become plain
+pub no_feed_among : (line more : Text) → list_all is_plain_byte (line ++ 10 ∷ more) ≡ true → ⊥
+no_feed_among line more plain =
+    let bytes = and_parts (list_all is_plain_byte line) (list_all is_plain_byte (10 ∷ more)) (sym (list_all-append is_plain_byte line (10 ∷ more)) ∙ plain) in
     let never : false ≡ true = bytes.1 in cc
+
+pub no_feed : (line more : Text) → may_become_plain (line ++ 10 ∷ more) ≡ true → ⊥
+no_feed line more e = no_feed_among line more (parts_of (line ++ 10 ∷ more) e).bytes
 
 is_false : (a : Bool) → (a ≡ true → ⊥) → a ≡ false
 is_false true h = absurd (h refl)

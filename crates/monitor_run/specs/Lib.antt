@@ -3,6 +3,7 @@ pub mod Buffers
 pub mod Fields
 pub mod Last
 pub mod Lines
+pub mod Nodes
 pub mod Passing
 pub mod Pieces
 pub mod Properties

@@ -6,14 +6,14 @@ use Rattle.monitor_run.specs.declared.judge.Judge.{Judge}
 use Rattle.monitor_run.specs.Lines.{event_of}
 use Rattle.monitor_run.specs.Passing.{Passes}
 use Rattle.monitor_run.specs.Report.{violation_lines}
-use Rattle.monitor_run.specs.Stands.{formula_of_node, Stands}
+use Rattle.monitor_run.specs.Stands.{Watches, Stands}
 use Rattle.monitor_run.specs.Verdicts.{AreVerdicts, false_count}
 
 -- the judge keeps what the formula needs of these lines, and has counted their verdicts
 pub record StandsAt (f : Formula) (name : Text) (lines : List Text) (verdicts : List Bool) (judge : Judge) : Type 0 where
-  pub watched : formula_of_node judge.node ≡ f
+  pub watched : Watches judge.watch f
   pub named : judge.name ≡ name
-  pub kept : Stands (map event_of lines) judge.node
+  pub kept : Stands (map event_of lines) judge.watch
   pub right : AreVerdicts (map event_of lines) f verdicts
   pub events : judge.events ≡ length verdicts
   pub violations : judge.violations ≡ false_count verdicts

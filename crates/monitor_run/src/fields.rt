@@ -47,6 +47,14 @@ fn begin_with(bytes: &[u8], text: &[u8]) -> bool
     bytes.starts_with(text)
 }
 
+/// Whether the first bytes differ. Most fields are told so, without a call.
+#[inline]
+fn begin_otherwise(bytes: &[u8], text: &[u8]) -> bool
+    ensures { IsTrue result → take (length text.now) bytes.now ≡ text.now → ⊥ }
+{
+    !bytes.is_empty() && !text.is_empty() && bytes[0] != text[0]
+}
+
 /// What stands behind the first field of the bytes, where that is this text. Most fields are told by their first bytes,
 /// and only where all bytes of the text stand there is the field's end looked for: the text may have commas.
 fn after_field<'a>(bytes: &'a [u8], text: &[u8]) -> Behind<'a>
@@ -89,7 +97,11 @@ pub fn is_event(name: &Text, terms: &[Term], line: &[u8]) -> bool
     requires { AreConstant terms.now }
     ensures { IsTrue result ↔ IsSomeAnd (texts_of [] terms.now) (λ args. ((event_of line.now).name ≡ name.now) × ((event_of line.now).args ≡ args)) }
 {
-    match after_field(line, name.bytes()) {
+    let name = name.bytes();
+    if begin_otherwise(line, name) {
+        return false;
+    }
+    match after_field(line, name) {
         Behind::Other => false,
         Behind::LineEnd => are_args(terms, None),
         Behind::Rest(rest) => are_args(terms, Some(rest)),

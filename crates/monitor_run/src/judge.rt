@@ -2,14 +2,12 @@
 ghost use Rattle.std.specs.Prelude.{◌≡◌, ◌+◌, ◌^◌, ◌<◌, ◌≤◌, ℕ, List, [], ◌∷◌, ◌++◌, Bool, Option, OnOk, OnErr, IfOk};
 ghost use Rattle.mon_base.specs.Causes.{HasCause};
 ghost use Rattle.mon_base.specs.Told.{AppendsFront};
-ghost use Rattle.qtl_syntax.specs.FirstForms.{IsFirst};
 ghost use Rattle.qtl_syntax.specs.Tree as tree;
 ghost use Rattle.monitor_run.specs.Passing.{Passes};
 ghost use Rattle.monitor_run.specs.Report.{violation_line};
-ghost use Rattle.monitor_run.specs.Stands.{formula_of_node};
 ghost use Rattle.monitor_run.specs.Watching.{Watching, CutShort};
 
-use crate::node::Node;
+use crate::node::Watch;
 use crate::output::Output;
 use crate::watch::step;
 use itoa::Buffer;
@@ -19,7 +17,7 @@ use qtl_syntax::Text;
 /// A property that is watched, and what was counted so far.
 #[derive(Drop)]
 pub struct Judge {
-    pub node: Node,
+    pub watch: Watch,
     pub name: Text,
     pub events: u64,
     pub violations: u64,
@@ -49,7 +47,6 @@ pub fn judge_line<W: Sink>(
     output: &mut Output,
     out: &mut W,
 ) -> Result<(), Failed>
-    requires first { IsFirst (formula_of_node judge.old.node) }
     requires room { judge.old.events + 1 < 2 ^ 64 }
     requires fewer { judge.old.violations ≤ judge.old.events }
     ensures ok { OnOk result ((f : tree.Formula) (name : tree.Text) (sent : Option (List ℕ)) (lines : List tree.Text) (verdicts : List Bool) →
@@ -58,12 +55,11 @@ pub fn judge_line<W: Sink>(
     ensures err { OnErr result ((f : tree.Formula) (name : tree.Text) (sent : Option (List ℕ)) (lines : List tree.Text) (verdicts : List Bool) →
         Watching f name sent (W.written out.old) lines verdicts judge.old output.old →
         CutShort f name sent (W.written out.new) (lines ++ line.now ∷ [])) }
-    ensures formula { formula_of_node judge.new.node ≡ formula_of_node judge.old.node }
     ensures events { judge.new.events ≡ judge.old.events + 1 }
     ensures still_fewer { judge.new.violations ≤ judge.new.events }
     ensures cause { HasCause (W.faults out.old) (W.faults out.new) result }
 {
-    let verdict = step(&mut judge.node, line);
+    let verdict = step(&mut judge.watch, line);
     judge.events += 1;
     if verdict {
         return Ok(());

@@ -1,13 +1,11 @@
 //! The log, read in pieces to its end or to the limit.
 ghost use Rattle.std.specs.Prelude.{◌≡◌, ◌≢◌, ◌^◌, ◌<◌, ◌≤◌, ℕ, List, [], length, true, Option};
 ghost use Rattle.mon_base.specs.Causes.{Rose};
-ghost use Rattle.qtl_syntax.specs.FirstForms.{IsFirst};
 ghost use Rattle.qtl_syntax.specs.Tree as tree;
 ghost use Rattle.monitor_run.specs.Answer.{HasFaultCause, IsNoFault};
 ghost use Rattle.monitor_run.specs.Buffers.{held_of, IsBuffer};
 ghost use Rattle.monitor_run.specs.Lines.{may_become_plain};
 ghost use Rattle.monitor_run.specs.Reading.{LogRead};
-ghost use Rattle.monitor_run.specs.Stands.{formula_of_node};
 ghost use Rattle.monitor_run.specs.Walking.{Walked};
 ghost use Rattle.monitor_run.specs.Watching.{StandsAt};
 
@@ -98,7 +96,6 @@ pub fn read_log<S: Source, W: Sink>(
 ) -> Reached
     requires sound { IsBuffer buffer }
     requires empty { held_of buffer ≡ [] }
-    requires first { IsFirst (formula_of_node judge.node) }
     requires events { judge.events ≡ 0 }
     requires violations { judge.violations ≡ 0 }
     requires nothing { output.old ≡ [] }

@@ -1,11 +1,9 @@
 //! The lines of a piece of the log, judged one by one.
 ghost use Rattle.std.specs.Prelude.{◌≡◌, ◌+◌, ◌-◌, ◌^◌, ◌<◌, ◌≤◌, ℕ, List, take, drop, length, Bool, true, Option, OnOk, IfOk, IfErr, count_by};
 ghost use Rattle.mon_base.specs.Causes.{Rose};
-ghost use Rattle.qtl_syntax.specs.FirstForms.{IsFirst};
 ghost use Rattle.qtl_syntax.specs.Tree as tree;
 ghost use Rattle.monitor_run.specs.Lines.{is_comma, may_become_plain};
 ghost use Rattle.monitor_run.specs.Pieces.{PieceJudged, IsLeft, PieceStops};
-ghost use Rattle.monitor_run.specs.Stands.{formula_of_node};
 ghost use Rattle.monitor_run.specs.Watching.{Watching};
 
 use crate::fields::bytes_from;
@@ -41,7 +39,6 @@ pub fn judge_piece<W: Sink>(
     requires within { begun.length ≤ length bytes.now }
     requires begun { may_become_plain (take begun.length bytes.now) ≡ true }
     requires counted { begun.commas ≡ count_by is_comma (take begun.length bytes.now) }
-    requires first { IsFirst (formula_of_node judge.old.node) }
     requires room { judge.old.events + length bytes.now < 2 ^ 64 }
     requires fewer { judge.old.violations ≤ judge.old.events }
     ensures ok { IfOk result (λ left. (f : tree.Formula) (name : tree.Text) (sent : Option (List ℕ)) (lines : List tree.Text) (verdicts : List Bool) →
@@ -51,7 +48,6 @@ pub fn judge_piece<W: Sink>(
     ensures err { IfErr result (λ end. (f : tree.Formula) (name : tree.Text) (sent : Option (List ℕ)) (lines : List tree.Text) (verdicts : List Bool) →
         Watching f name sent (W.written out.old) lines verdicts judge.old output.old →
         PieceStops f name sent (W.written out.new) lines bytes.now judge.new output.new end) }
-    ensures formula { formula_of_node judge.new.node ≡ formula_of_node judge.old.node }
     ensures events { judge.new.events ≤ judge.old.events + length bytes.now }
     ensures events_left { IfOk result (λ left. judge.new.events + left.length ≤ judge.old.events + length bytes.now) }
     ensures still_fewer { judge.new.violations ≤ judge.new.events }

@@ -131,7 +131,7 @@ fn judge_of(alloc: Global, property: Property) -> Result<Judge, NoMemory>
     ensures { IfOk result (λ judge. StandsAt (formula_of property.body) property.name [] [] judge) }
 {
     Ok(Judge {
-        node: watch::open(alloc, property.body)?,
+        watch: watch::open(alloc, property.body)?,
         name: property.name,
         events: 0,
         violations: 0,

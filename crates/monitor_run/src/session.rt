@@ -2,11 +2,9 @@
 ghost use Rattle.std.specs.Prelude.{◌≡◌, ◌≢◌, ◌↔◌, ◌≤◌, [], ◌∷◌, map, length, IfSome, IfNone, string_bytes};
 ghost use Rattle.mon_base.specs.Causes.{Rose};
 ghost use Rattle.mon_base.specs.Told.{text_of};
-ghost use Rattle.qtl_syntax.specs.FirstForms.{IsFirst};
 ghost use Rattle.qtl_syntax.specs.Tree as tree;
 ghost use Rattle.monitor_run.specs.Answer.{HasFaultCause};
 ghost use Rattle.monitor_run.specs.Reading.{LogTold, Reaches};
-ghost use Rattle.monitor_run.specs.Stands.{formula_of_node};
 ghost use Rattle.monitor_run.specs.Watching.{StandsAt};
 
 use crate::MAX_LOG;
@@ -35,7 +33,6 @@ fn run_log<F: Files, W: Sink>(
     output: &mut Output,
     out: &mut W,
 ) -> Reached
-    requires first { IsFirst (formula_of_node judge.node) }
     requires events { judge.events ≡ 0 }
     requires violations { judge.violations ≡ 0 }
     requires nothing { output.old ≡ [] }

@@ -1,11 +1,9 @@
 //! One turn of the reading of a log: some bytes are taken, and the lines that are whole now are judged.
 ghost use Rattle.std.specs.Prelude.{◌≡◌, ◌+◌, ◌^◌, ◌<◌, ◌≤◌, ℕ, List, length, take, Bool, true, Option, count_by};
 ghost use Rattle.mon_base.specs.Causes.{Rose};
-ghost use Rattle.qtl_syntax.specs.FirstForms.{IsFirst};
 ghost use Rattle.qtl_syntax.specs.Tree as tree;
 ghost use Rattle.monitor_run.specs.Buffers.{held_of, IsBuffer};
 ghost use Rattle.monitor_run.specs.Lines.{is_comma, may_become_plain};
-ghost use Rattle.monitor_run.specs.Stands.{formula_of_node};
 ghost use Rattle.monitor_run.specs.Walking.{Walked, TurnsTo, HeldTurns, KeepsCounts, IsLeftBy};
 ghost use Rattle.monitor_run.specs.Watching.{Watching};
 
@@ -42,7 +40,6 @@ fn judge_held<W: Sink>(
     requires within { begun.length ≤ length (held_of buffer.old) }
     requires begun { may_become_plain (take begun.length (held_of buffer.old)) ≡ true }
     requires counted { begun.commas ≡ count_by is_comma (take begun.length (held_of buffer.old)) }
-    requires first { IsFirst (formula_of_node judge.old.node) }
     requires room { judge.old.events + length (held_of buffer.old) < 2 ^ 64 }
     requires fewer { judge.old.violations ≤ judge.old.events }
     ensures sound { IsBuffer buffer.new }
@@ -50,7 +47,6 @@ fn judge_held<W: Sink>(
         Watching f name sent (W.written out.old) lines verdicts judge.old output.old →
         HeldTurns f name sent (W.written out.new) lines (held_of buffer.old) (held_of buffer.new) count judge.new output.new result }
     ensures counts { IsLeftBy count (judge.old.events + length (held_of buffer.old)) judge.new (held_of buffer.new) result }
-    ensures formula { formula_of_node judge.new.node ≡ formula_of_node judge.old.node }
     ensures still_fewer { judge.new.violations ≤ judge.new.events }
     ensures out_later { W.faults out.old ≤ W.faults out.new }
     ensures write_failed { result ≡ Turn.CannotWrite → Rose (W.faults out.old) (W.faults out.new) }
@@ -82,7 +78,6 @@ pub fn take_turn<S: Source, W: Sink>(
     requires sound { IsBuffer buffer.old }
     requires begun { may_become_plain (held_of buffer.old) ≡ true }
     requires counted { commas ≡ count_by is_comma (held_of buffer.old) }
-    requires first { IsFirst (formula_of_node judge.old.node) }
     requires room { judge.old.events + length (held_of buffer.old) + most < 2 ^ 64 }
     requires fewer { judge.old.violations ≤ judge.old.events }
     requires some { 0 < most }
@@ -91,7 +86,6 @@ pub fn take_turn<S: Source, W: Sink>(
         Walked f name left (S.left source.old) sent (W.written out.old) given (held_of buffer.old) judge.old output.old →
         TurnsTo f name left (S.left source.new) sent (W.written out.new) given (held_of buffer.new) most judge.new output.new result }
     ensures counts { KeepsCounts most (judge.old.events + length (held_of buffer.old)) judge.new (held_of buffer.new) result }
-    ensures formula { formula_of_node judge.new.node ≡ formula_of_node judge.old.node }
     ensures still_fewer { judge.new.violations ≤ judge.new.events }
     ensures later { S.faults source.old ≤ S.faults source.new }
     ensures out_later { W.faults out.old ≤ W.faults out.new }

@@ -1,8 +1,20 @@
-use Rattle.std.proofs.Common.{◌++◌, sym, subst, arith, length-append}
-use Rattle.qtl_syntax.specs.FirstForms.{IsFirst}
+use Rattle.std.proofs.Common.{rules, [], ◌++◌, refl, arith, length-append}
 use Rattle.monitor_run.specs.Buffers.{held_of}
-use Rattle.monitor_run.proofs.LogLemmas.{read_ended, read_odd, read_failed, read_short}
+use Rattle.monitor_run.proofs.LogLemmas.{walked_start, read_ended, read_odd, read_failed, read_short}
 use Rattle.monitor_run.proofs.log.read_log.Goals as goal
+
+pub pieces-init : goal.pieces-init
+pieces-init g c = record {
+  walked = λ f name stands. ([], refl, walked_start f name _ _ (held_of c.args.buffer) c.args.judge c.args.output.now stands c.requires.empty c.requires.nothing);
+  sound = c.requires.sound;
+  begun = search rules;
+  counted = search rules;
+  events = search rules;
+  fewer = search rules;
+  within = omega arith;
+  later = omega arith;
+  out_later = omega arith;
+}
 
 pub pieces-preserved : goal.pieces-preserved
 pieces-preserved g c =
@@ -15,7 +27,6 @@ pieces-preserved g c =
       sound = c.take_turn.ensures.sound;
       begun = counts.2;
       counted = counts.3;
-      first = subst IsFirst (sym c.take_turn.ensures.formula) c.pieces.invariant.first;
       events = omega (arith, counts.4, c.pieces.invariant.events);
       fewer = c.take_turn.ensures.still_fewer;
       within = omega (arith, counts.1, c.pieces.invariant.within);

@@ -1,10 +1,8 @@
 use Rattle.std.proofs.Common.{◌≡◌, ◌≤◌, ◌+◌, ◌-◌, [], true, length}
 use Rattle.std.specs.Prelude.{count_by}
 use Rattle.qtl_syntax.specs.Tree.{Text, Formula}
-use Rattle.qtl_syntax.specs.FirstForms.{IsFirst}
 use Rattle.monitor_run.specs.Buffers.{held_of, IsBuffer}
 use Rattle.monitor_run.specs.Lines.{is_comma, may_become_plain}
-use Rattle.monitor_run.specs.Stands.{formula_of_node}
 use Rattle.monitor_run.specs.Walking.{Walked}
 use Rattle.monitor_run.specs.Watching.{StandsAt}
 use Rattle.monitor_run.proofs.log.read_log.Given as goal
@@ -17,7 +15,6 @@ invariant-pieces g l = record {
   sound : IsBuffer l.buffer;
   begun : may_become_plain (held_of l.buffer) ≡ true;
   counted : l.commas ≡ count_by is_comma (held_of l.buffer);
-  first : IsFirst (formula_of_node l.judge.node);
   events : l.judge.events + length (held_of l.buffer) ≤ l.taken;
   fewer : l.judge.violations ≤ l.judge.events;
   within : l.taken ≤ l.limit;

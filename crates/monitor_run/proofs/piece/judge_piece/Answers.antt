@@ -1,4 +1,4 @@
-use Rattle.std.proofs.Common.{◌≡◌, ◌∙◌, ◌+◌, ◌-◌, ◌++◌, ap, drop, length, refl, arith, rules, length-drop}
+use Rattle.std.proofs.Common.{◌≡◌, ◌∙◌, ◌+◌, ◌-◌, ◌++◌, ap, drop, length, arith, rules, length-drop}
 use Rattle.monitor_run.proofs.PieceLemmas.{piece_none, piece_more, piece_cut, suffix_more}
 use Rattle.monitor_run.proofs.piece.judge_piece.Goals as goal
 
@@ -10,7 +10,6 @@ lines-init g c = record {
   within = c.requires.within;
   begun = c.requires.begun;
   counted = c.requires.counted;
-  formula = refl;
   events = omega arith;
   fewer = c.requires.fewer;
   later = omega arith;
@@ -39,7 +38,6 @@ lines-preserved g c =
       within = omega arith;
       begun = search rules;
       counted = search rules;
-      formula = c.judge_line.ensures.formula ∙ c.lines.invariant.formula;
       events = omega (arith, left, found.0, c.judge_line.ensures.events, c.lines.invariant.events);
       fewer = c.judge_line.ensures.still_fewer;
       later = omega (arith, c.judge_line.ensures.cause.later, c.lines.invariant.later);

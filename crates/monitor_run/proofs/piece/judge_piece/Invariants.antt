@@ -3,7 +3,6 @@ use Rattle.std.specs.Prelude.{count_by}
 use Rattle.qtl_syntax.specs.Tree.{Text, Formula}
 use Rattle.monitor_run.specs.Lines.{is_comma, may_become_plain}
 use Rattle.monitor_run.specs.Pieces.{PieceJudged}
-use Rattle.monitor_run.specs.Stands.{formula_of_node}
 use Rattle.monitor_run.specs.Watching.{Watching}
 use Rattle.monitor_run.proofs.piece.judge_piece.Given as goal
 
@@ -18,7 +17,6 @@ invariant-lines g l = record {
   within : l.seen ≤ length l.rest;
   begun : may_become_plain (take l.seen l.rest) ≡ true;
   counted : l.commas ≡ count_by is_comma (take l.seen l.rest);
-  formula : formula_of_node l.judge.node ≡ formula_of_node l.fn.judge.node;
   events : l.judge.events + length l.rest ≤ l.fn.judge.events + length l.fn.bytes;
   fewer : l.judge.violations ≤ l.judge.events;
   later : g.W.Sink.faults l.fn.out ≤ g.W.Sink.faults l.out;
