@@ -8,8 +8,8 @@ use Rattle.monitor_run.specs.Properties.{PropertyRead, SpecRefused}
 use Rattle.monitor_run.specs.Reading.{LogTold, Reaches}
 use Rattle.monitor_run.specs.declared.judge.Judge.{Judge}
 use Rattle.monitor_run.specs.declared.end.End.{End}
-use Rattle.monitor_run.specs.declared.end.End.TheVariants.{AllTrue, Violated, Usage, NotBuilt, LogTooLong, OpenFault, ReadFault, WriteFault, NoMemory}
-use Rattle.monitor_run.specs.declared.end.Which.TheVariants.{Spec, Log}
+use Rattle.monitor_run.specs.declared.end.End.TheVariants.{AllTrue, Violated, Usage, SpecTooLong, Spec, NotBuilt, LogTooLong, OpenFault, ReadFault, WriteFault, NoMemory}
+use Rattle.monitor_run.specs.declared.end.Which.TheVariants as file
 use Rattle.monitor_run.proofs.Passages.{passes_none}
 
 checked : (end : End) (spec log : Option Text) (name : Text) (f : Formula) (events : ℕ) (body : Text) → IsProperty spec name f → LogBody end name f log events body → Checked end spec log events body
@@ -20,12 +20,14 @@ body_told : (texts : List (Text × Text)) (spec log : Text) (rose : Type 0) (w0 
 body_told texts spec log rose w0 w1 held name f AllTrue events p r = (r.0, checked AllTrue _ _ name f events r.0 p r.1, r.2)
 body_told texts spec log rose w0 w1 held name f (Violated count) events p r = (r.0, checked (Violated count) _ _ name f events r.0 p r.1, r.2)
 body_told texts spec log rose w0 w1 held name f Usage events p r = absurd r.1
+body_told texts spec log rose w0 w1 held name f SpecTooLong events p r = absurd r.1
+body_told texts spec log rose w0 w1 held name f (Spec fault) events p r = absurd r.1
 body_told texts spec log rose w0 w1 held name f NotBuilt events p r = (r.0, inr (checked NotBuilt _ _ name f events r.0 p r.1), r.2)
 body_told texts spec log rose w0 w1 held name f (LogTooLong limit) events p r = (r.0, checked (LogTooLong limit) _ _ name f events r.0 p r.1, r.2)
-body_told texts spec log rose w0 w1 held name f (OpenFault Spec) events p r = absurd r.1
-body_told texts spec log rose w0 w1 held name f (OpenFault Log) events p r = (r.0, checked (OpenFault Log) _ _ name f events r.0 p r.1, r.2)
-body_told texts spec log rose w0 w1 held name f (ReadFault Spec) events p r = absurd r.1
-body_told texts spec log rose w0 w1 held name f (ReadFault Log) events p r = (r.0, checked (ReadFault Log) _ _ name f events r.0 p r.1, r.2)
+body_told texts spec log rose w0 w1 held name f (OpenFault file.Spec) events p r = absurd r.1
+body_told texts spec log rose w0 w1 held name f (OpenFault file.Log) events p r = (r.0, checked (OpenFault file.Log) _ _ name f events r.0 p r.1, r.2)
+body_told texts spec log rose w0 w1 held name f (ReadFault file.Spec) events p r = absurd r.1
+body_told texts spec log rose w0 w1 held name f (ReadFault file.Log) events p r = (r.0, checked (ReadFault file.Log) _ _ name f events r.0 p r.1, r.2)
 body_told texts spec log rose w0 w1 held name f WriteFault events p r = (r.front, inl (record { name = name; formula = f; property = p; judged = r.judged }), r.grown)
 body_told texts spec log rose w0 w1 held name f NoMemory events p r = r
 
@@ -40,12 +42,14 @@ refused_told None spec log rose w held end none r = tt
 refused_told (Some texts) spec log rose w held AllTrue none r = absurd r
 refused_told (Some texts) spec log rose w held (Violated count) none r = absurd r
 refused_told (Some texts) spec log rose w held Usage none r = absurd r
+refused_told (Some texts) spec log rose w held SpecTooLong none r = rw none ([], (r, refl), passes_none w [])
+refused_told (Some texts) spec log rose w held (Spec fault) none r = rw none ([], (r, refl), passes_none w [])
 refused_told (Some texts) spec log rose w held NotBuilt none r = rw none ([], inl (r, refl), passes_none w [])
 refused_told (Some texts) spec log rose w held (LogTooLong limit) none r = absurd r
-refused_told (Some texts) spec log rose w held (OpenFault Spec) none r = rw none ([], refl, passes_none w [])
-refused_told (Some texts) spec log rose w held (OpenFault Log) none r = absurd r
-refused_told (Some texts) spec log rose w held (ReadFault Spec) none r = rw none ([], refl, passes_none w [])
-refused_told (Some texts) spec log rose w held (ReadFault Log) none r = absurd r
+refused_told (Some texts) spec log rose w held (OpenFault file.Spec) none r = rw none ([], refl, passes_none w [])
+refused_told (Some texts) spec log rose w held (OpenFault file.Log) none r = absurd r
+refused_told (Some texts) spec log rose w held (ReadFault file.Spec) none r = rw none ([], refl, passes_none w [])
+refused_told (Some texts) spec log rose w held (ReadFault file.Log) none r = absurd r
 refused_told (Some texts) spec log rose w held WriteFault none r = absurd r
 refused_told (Some texts) spec log rose w held NoMemory none r = rw none (passes_none w [])
 

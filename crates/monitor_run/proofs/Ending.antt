@@ -9,7 +9,7 @@ use Rattle.monitor_run.specs.Last.{Sends, Finishes}
 use Rattle.monitor_run.specs.Passing.{Passes}
 use Rattle.monitor_run.specs.Reading.{Reaches}
 use Rattle.monitor_run.specs.declared.end.End.{End}
-use Rattle.monitor_run.specs.declared.end.End.TheVariants.{AllTrue, Violated, Usage, NotBuilt, LogTooLong, OpenFault, ReadFault, WriteFault, NoMemory}
+use Rattle.monitor_run.specs.declared.end.End.TheVariants.{AllTrue, Violated, Usage, SpecTooLong, Spec, NotBuilt, LogTooLong, OpenFault, ReadFault, WriteFault, NoMemory}
 
 appends_none : (a b c : Option Text) (xs : Text) → Appends a b xs → Appends b c [] → Appends a c xs
 appends_none a b c xs h none = subst (λ (ys : Text). Appends a c ys) (append-nil xs) (Appends-trans a b c xs [] h none)
@@ -65,6 +65,8 @@ file_cause : (rose before : Type 0) (end : End) → (end ≡ WriteFault → ⊥)
 file_cause rose before AllTrue other h = tt
 file_cause rose before (Violated count) other h = tt
 file_cause rose before Usage other h = tt
+file_cause rose before SpecTooLong other h = tt
+file_cause rose before (Spec fault) other h = tt
 file_cause rose before NotBuilt other h = tt
 file_cause rose before (LogTooLong limit) other h = tt
 file_cause rose before (OpenFault which) other h = h
@@ -77,6 +79,8 @@ ended : (texts : List (Text × Text)) (words : List Text) (rose before out_rose 
 ended texts words rose before out_rose w0 w1 w2 held AllTrue end events cause b f = sends_told texts words rose out_rose w0 w1 w2 held AllTrue end events (λ x. x) tt b f
 ended texts words rose before out_rose w0 w1 w2 held (Violated count) end events cause b f = sends_told texts words rose out_rose w0 w1 w2 held (Violated count) end events (λ x. x) tt b f
 ended texts words rose before out_rose w0 w1 w2 held Usage end events cause b f = sends_told texts words rose out_rose w0 w1 w2 held Usage end events (λ x. x) tt b f
+ended texts words rose before out_rose w0 w1 w2 held SpecTooLong end events cause b f = sends_told texts words rose out_rose w0 w1 w2 held SpecTooLong end events (λ x. x) tt b f
+ended texts words rose before out_rose w0 w1 w2 held (Spec fault) end events cause b f = sends_told texts words rose out_rose w0 w1 w2 held (Spec fault) end events (λ x. x) tt b f
 ended texts words rose before out_rose w0 w1 w2 held NotBuilt end events cause b f = sends_told texts words rose out_rose w0 w1 w2 held NotBuilt end events (λ x. x) tt b f
 ended texts words rose before out_rose w0 w1 w2 held (LogTooLong limit) end events cause b f = sends_told texts words rose out_rose w0 w1 w2 held (LogTooLong limit) end events (λ x. x) tt b f
 ended texts words rose before out_rose w0 w1 w2 held (OpenFault which) end events cause b f = sends_told texts words rose out_rose w0 w1 w2 held (OpenFault which) end events (λ x. x) cause b f
@@ -100,6 +104,8 @@ pub ended_cause : (rose before out_rose after : Type 0) (w1 w2 : Option Text) (h
 ended_cause rose before out_rose after w1 w2 held AllTrue end events early up cause f = sends_cause rose out_rose after w1 w2 _ AllTrue end up tt f
 ended_cause rose before out_rose after w1 w2 held (Violated count) end events early up cause f = sends_cause rose out_rose after w1 w2 _ (Violated count) end up tt f
 ended_cause rose before out_rose after w1 w2 held Usage end events early up cause f = sends_cause rose out_rose after w1 w2 _ Usage end up tt f
+ended_cause rose before out_rose after w1 w2 held SpecTooLong end events early up cause f = sends_cause rose out_rose after w1 w2 _ SpecTooLong end up tt f
+ended_cause rose before out_rose after w1 w2 held (Spec fault) end events early up cause f = sends_cause rose out_rose after w1 w2 _ (Spec fault) end up tt f
 ended_cause rose before out_rose after w1 w2 held NotBuilt end events early up cause f = sends_cause rose out_rose after w1 w2 _ NotBuilt end up tt f
 ended_cause rose before out_rose after w1 w2 held (LogTooLong limit) end events early up cause f = sends_cause rose out_rose after w1 w2 _ (LogTooLong limit) end up tt f
 ended_cause rose before out_rose after w1 w2 held (OpenFault which) end events early up cause f = sends_cause rose out_rose after w1 w2 _ (OpenFault which) end up cause f
@@ -115,6 +121,8 @@ pub ended_usage : (out_rose : Type 0) (w1 w2 : Option Text) (held : Text) (reach
 ended_usage out_rose w1 w2 held AllTrue end events f e = sends_usage out_rose w1 w2 _ AllTrue end f e
 ended_usage out_rose w1 w2 held (Violated count) end events f e = sends_usage out_rose w1 w2 _ (Violated count) end f e
 ended_usage out_rose w1 w2 held Usage end events f e = refl
+ended_usage out_rose w1 w2 held SpecTooLong end events f e = sends_usage out_rose w1 w2 _ SpecTooLong end f e
+ended_usage out_rose w1 w2 held (Spec fault) end events f e = sends_usage out_rose w1 w2 _ (Spec fault) end f e
 ended_usage out_rose w1 w2 held NotBuilt end events f e = sends_usage out_rose w1 w2 _ NotBuilt end f e
 ended_usage out_rose w1 w2 held (LogTooLong limit) end events f e = sends_usage out_rose w1 w2 _ (LogTooLong limit) end f e
 ended_usage out_rose w1 w2 held (OpenFault which) end events f e = sends_usage out_rose w1 w2 _ (OpenFault which) end f e

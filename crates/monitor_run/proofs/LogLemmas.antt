@@ -7,7 +7,7 @@ use Rattle.std.proofs.lemmas.Bool.{cases_lt}
 use Rattle.qtl_syntax.specs.Tree.{Text, Formula}
 use Rattle.monitor_run.specs.declared.judge.Judge.{Judge}
 use Rattle.monitor_run.specs.declared.end.End.{End}
-use Rattle.monitor_run.specs.declared.end.End.TheVariants.{AllTrue, Violated, Usage, NotBuilt, LogTooLong, OpenFault, ReadFault, WriteFault, NoMemory}
+use Rattle.monitor_run.specs.declared.end.End.TheVariants.{AllTrue, Violated, Usage, SpecTooLong, Spec, NotBuilt, LogTooLong, OpenFault, ReadFault, WriteFault, NoMemory}
 use Rattle.monitor_run.specs.Answer.{HasFaultCause, IsNoFault}
 use Rattle.monitor_run.specs.Lines.{may_become_plain, IsOdd}
 use Rattle.monitor_run.specs.Reading.{ReadTo, ReadShort, LogRead}
@@ -88,6 +88,8 @@ pub no_fault : (files out : Type 0) (end : End) → IsNoFault end → HasFaultCa
 no_fault files out AllTrue h = tt
 no_fault files out (Violated count) h = tt
 no_fault files out Usage h = tt
+no_fault files out SpecTooLong h = tt
+no_fault files out (Spec fault) h = tt
 no_fault files out NotBuilt h = tt
 no_fault files out (LogTooLong limit) h = tt
 no_fault files out (OpenFault which) h = absurd h

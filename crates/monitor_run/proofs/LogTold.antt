@@ -9,8 +9,8 @@ use Rattle.monitor_run.specs.Answer.{Judged}
 use Rattle.monitor_run.specs.Lines.{text_of_lines}
 use Rattle.monitor_run.specs.Reading.{ReadShort, LogRead, LogCut, LogTold}
 use Rattle.monitor_run.specs.declared.end.End.{End}
-use Rattle.monitor_run.specs.declared.end.End.TheVariants.{AllTrue, Violated, Usage, NotBuilt, LogTooLong, OpenFault, ReadFault, WriteFault, NoMemory}
-use Rattle.monitor_run.specs.declared.end.Which.TheVariants.{Spec, Log}
+use Rattle.monitor_run.specs.declared.end.End.TheVariants.{AllTrue, Violated, Usage, SpecTooLong, Spec, NotBuilt, LogTooLong, OpenFault, ReadFault, WriteFault, NoMemory}
+use Rattle.monitor_run.specs.declared.end.Which.TheVariants as file
 use Rattle.monitor_run.specs.declared.TheConstants.{MAX_LOG}
 
 consumed : (all given : Text) (left1 : Option Text) → Consumes (Some all) left1 given → (rest : Text) × (all ≡ given ++ rest) × (IsAtEnd left1 → rest ≡ [])
@@ -49,6 +49,8 @@ log_told name f all left1 w0 w1 held (Violated n) events (some, (given, verdicts
     let is = whole all given left1 r.taken at_end in
     (r.body, (some, (verdicts, subst (λ (a : Text). Judged name f a [] verdicts r.body) is r.judged, subst (λ (a : Text). length a ≤ MAX_LOG) is short, count, violations)), r.passed)
 log_told name f all left1 w0 w1 held Usage events r = absurd r
+log_told name f all left1 w0 w1 held SpecTooLong events r = absurd r
+log_told name f all left1 w0 w1 held (Spec fault) events r = absurd r
 log_told name f all left1 w0 w1 held NotBuilt events (given, begun, verdicts, r, short, inl odd) =
     let c = consumed_just all given left1 r.taken in
     (r.body, (given, c.0, begun, verdicts, c.1, short, r.judged, inl odd), r.passed)
@@ -62,8 +64,8 @@ log_told name f all left1 w0 w1 held (LogTooLong limit) events (given, begun, be
     let long : MAX_LOG < length all = let l = ap (λ (l : Text). length l) split in omega (arith, l, length-append given (behind ++ c.0), length-append behind c.0, len, some) in
     (r.body, (most, (begun, verdicts, long, subst (λ (a : Text). Judged name f a begun verdicts r.body) first r.judged, may)), r.passed)
 log_told name f all left1 w0 w1 held (OpenFault which) events r = absurd r
-log_told name f all left1 w0 w1 held (ReadFault Spec) events r = absurd r
-log_told name f all left1 w0 w1 held (ReadFault Log) events (given, begun, verdicts, r, short, may) =
+log_told name f all left1 w0 w1 held (ReadFault file.Spec) events r = absurd r
+log_told name f all left1 w0 w1 held (ReadFault file.Log) events (given, begun, verdicts, r, short, may) =
     let c = consumed_just all given left1 r.taken in
     (r.body, (given, c.0, begun, verdicts, c.1, short, r.judged, may), r.passed)
 log_told name f all left1 w0 w1 held WriteFault events r = cut_told name f all left1 w0 w1 r

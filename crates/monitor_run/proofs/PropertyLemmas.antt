@@ -1,5 +1,5 @@
 -- What is read of a specification's text.
-use Rattle.std.proofs.Common.{◌≡◌, ◌∙◌, List, [], ◌∷◌, ◌++◌, map, refl, sym, inr}
+use Rattle.std.proofs.Common.{◌≡◌, ◌∙◌, List, [], ◌∷◌, ◌++◌, map, refl, sym}
 use Rattle.qtl_syntax.specs.FirstForms.{IsFirstItems}
 use Rattle.qtl_syntax.specs.Tree.{item_of}
 use Rattle.qtl_syntax.specs.declared.formula.Item.{Item as TheItem}
@@ -9,20 +9,23 @@ use Rattle.qtl_syntax.specs.Tree.{Text}
 use Rattle.monitor_run.specs.Properties.{SpecIs, IsSpelled, IsUnspelled, PropertyRead, SpecRefused}
 use Rattle.monitor_run.specs.declared.judge.Judge.{Judge}
 use Rattle.monitor_run.specs.declared.end.End.{End}
-use Rattle.monitor_run.specs.declared.end.End.TheVariants.{AllTrue, Violated, Usage, NotBuilt, LogTooLong, OpenFault, ReadFault, WriteFault, NoMemory}
+use Rattle.monitor_run.specs.declared.end.End.TheVariants.{AllTrue, Violated, Usage, SpecTooLong, Spec, NotBuilt, LogTooLong, OpenFault, ReadFault, WriteFault, NoMemory}
 
 spelled_read : (t : Option (List (Text × Text))) (spec text : Text) (judge : Judge) → IfSome t (λ files. SpecIs files spec text) → IsSpelled text judge → PropertyRead t spec judge
 spelled_read None spec text judge s h = record { name = h.name; formula = h.formula; first = h.first; stands = h.stands; property = tt }
 spelled_read (Some files) spec text judge s h =
-    record { name = h.name; formula = h.formula; first = h.first; stands = h.stands; property = rw s.0 (s.1, h.spelled) }
+    record { name = h.name; formula = h.formula; first = h.first; stands = h.stands; property = rw s.0 (s.1, h.spelled, h.first) }
 
 unspelled_read : (t : Option (List (Text × Text))) (spec text : Text) (rose : Type 0) (end : End) → IfSome t (λ files. SpecIs files spec text) → IsUnspelled text end → SpecRefused t spec rose end
 unspelled_read None spec text rose NotBuilt s h = tt
-unspelled_read (Some files) spec text rose NotBuilt s h = rw s.0 (inr h)
+unspelled_read (Some files) spec text rose NotBuilt s (items, within, other) = rw s.0 (s.1, items, within, other)
+unspelled_read None spec text rose (Spec fault) s h = tt
+unspelled_read (Some files) spec text rose (Spec fault) s h = rw s.0 (h.0, (s.1, h.1))
 unspelled_read t spec text rose NoMemory s h = tt
 unspelled_read t spec text rose AllTrue s h = absurd h
 unspelled_read t spec text rose (Violated count) s h = absurd h
 unspelled_read t spec text rose Usage s h = absurd h
+unspelled_read t spec text rose SpecTooLong s h = absurd h
 unspelled_read t spec text rose (LogTooLong limit) s h = absurd h
 unspelled_read t spec text rose (OpenFault which) s h = absurd h
 unspelled_read t spec text rose (ReadFault which) s h = absurd h

@@ -1,16 +1,20 @@
 -- What is written at each end of a run, and when that end comes.
-use Rattle.std.specs.Prelude.{◌≡◌, ℕ, ◌<◌, ◌≤◌, ◌⊎◌, ⊤, List, [], ◌∷◌, ◌++◌, length, take, map, Bool, true, Option, IsSomeAnd, codes, decimal}
+use Rattle.std.specs.Prelude.{◌≡◌, ◌≢◌, ℕ, ◌<◌, ◌≤◌, ◌⊎◌, ⊤, List, [], ◌∷◌, ◌++◌, length, take, map, Bool, true, Option, IsSomeAnd, codes, decimal}
 use Rattle.std.specs.List.{list_all}
 use Rattle.std.specs.Io.KnownBytes.{Appends}
 use Rattle.mon_base.specs.Told.{text_of}
 use Rattle.qtl_syntax.specs.Tree.{Text, Formula, Item, Prop}
-use Rattle.qtl_syntax.specs.FirstForms.{SpellsFirst}
+use Rattle.qtl_syntax.specs.FirstForms.{IsFirst, IsFirstItems}
+use Rattle.qtl_syntax.specs.Faults.{SpellsWithin, IsFault}
+use Rattle.qtl_syntax.specs.declared.fault.SpecFault.{SpecFault}
+use Rattle.qtl_syntax.specs.declared.fault.SpecFault.TheVariants as spec_fault
 use Rattle.monitor_run.specs.Lines.{text_of_lines, event_of, is_plain, may_become_plain, BeginsOddly, IsOdd}
 use Rattle.monitor_run.specs.Report.{violation_lines}
 use Rattle.monitor_run.specs.Verdicts.{AreVerdicts, false_count}
 use Rattle.monitor_run.specs.declared.end.End.{End}
-use Rattle.monitor_run.specs.declared.end.End.TheVariants.{AllTrue, Violated, Usage, NotBuilt, LogTooLong, OpenFault, ReadFault, WriteFault, NoMemory}
-use Rattle.monitor_run.specs.declared.end.Which.TheVariants.{Spec, Log}
+use Rattle.monitor_run.specs.declared.end.End.TheVariants.{AllTrue, Violated, Usage, SpecTooLong, Spec, NotBuilt, LogTooLong, OpenFault, ReadFault, WriteFault, NoMemory}
+use Rattle.monitor_run.specs.declared.end.Which.{Which}
+use Rattle.monitor_run.specs.declared.end.Which.TheVariants as file
 use Rattle.monitor_run.specs.declared.TheConstants.{MAX_SPEC, MAX_LOG}
 
 -- the exit status of an end
@@ -18,6 +22,8 @@ abbrev pub status_of : End → ℕ
 status_of AllTrue = 0
 status_of (Violated count) = 1
 status_of Usage = 2
+status_of SpecTooLong = 3
+status_of (Spec fault) = 3
 status_of (LogTooLong limit) = 4
 status_of (OpenFault which) = 6
 status_of (ReadFault which) = 6
@@ -44,31 +50,54 @@ abbrev pub IsDecided : End → Type 0
 IsDecided AllTrue = ⊤
 IsDecided (Violated count) = ⊤
 IsDecided Usage = ⊤
+IsDecided SpecTooLong = ⊤
+IsDecided (Spec fault) = ⊤
 IsDecided NotBuilt = ⊤
 IsDecided (LogTooLong limit) = ⊤
 IsDecided _ = ⊥
+
+-- the line that tells why a specification is refused, and where
+abbrev pub fault_line : SpecFault → Text
+fault_line (spec_fault.NotToken at) = codes "stopped: no token at byte " ++ (decimal at ++ codes "\n")
+fault_line (spec_fault.Syntax at) = codes "stopped: syntax at token " ++ (decimal at ++ codes "\n")
+fault_line (spec_fault.TooDeep at) = codes "stopped: too deep at token " ++ (decimal at ++ codes "\n")
+fault_line (spec_fault.BoundTooLarge at) = codes "stopped: bound too large at token " ++ (decimal at ++ codes "\n")
+fault_line spec_fault.NoMemory = []
+
+-- how a last line calls the file
+abbrev pub file_text : Which → Text
+file_text file.Spec = codes "the specification"
+file_text file.Log = codes "the log"
 
 -- the last line of a run that judged so many events
 abbrev pub last_line : End → ℕ → Text
 last_line AllTrue events = codes "events " ++ (decimal events ++ (codes " violations " ++ (decimal 0 ++ codes "\n")))
 last_line (Violated count) events = codes "events " ++ (decimal events ++ (codes " violations " ++ (decimal count ++ codes "\n")))
 last_line Usage events = codes "stopped: usage: dejavu SPEC LOG\n"
+last_line SpecTooLong events = codes "stopped: specification longer than 1048576 bytes\n"
+last_line (Spec fault) events = fault_line fault
 last_line NotBuilt events = codes "stopped: not built\n"
 last_line (LogTooLong limit) events = codes "stopped: log longer than " ++ (decimal limit ++ codes " bytes\n")
-last_line (OpenFault Spec) events = codes "stopped: cannot open the specification\n"
-last_line (OpenFault Log) events = codes "stopped: cannot open the log\n"
-last_line (ReadFault Spec) events = codes "stopped: read fault in the specification\n"
-last_line (ReadFault Log) events = codes "stopped: read fault in the log\n"
+last_line (OpenFault which) events = codes "stopped: cannot open " ++ (file_text which ++ codes "\n")
+last_line (ReadFault which) events = codes "stopped: read fault in " ++ (file_text which ++ codes "\n")
 last_line WriteFault events = []
 last_line NoMemory events = []
 
--- the specification is one property, of this name and formula
-abbrev pub IsProperty : Option Text → Text → Formula → Type 0
-IsProperty spec name f = IsSomeAnd spec (λ text. (length text ≤ MAX_SPEC) × SpellsFirst text (Prop name f ∷ []))
+-- the specification has more bytes than it may have
+abbrev pub IsTooLong : Option Text → Type 0
+IsTooLong spec = IsSomeAnd spec (λ text. MAX_SPEC < length text)
 
--- the specification is none that is built
+-- the specification isn't too long, and has this fault
+abbrev pub HasFault : Option Text → SpecFault → Type 0
+HasFault spec fault = (fault ≢ spec_fault.NoMemory) × IsSomeAnd spec (λ text. (length text ≤ MAX_SPEC) × IsFault text fault)
+
+-- the specification spells items within the limits, which aren't one property of the first forms
 abbrev pub IsNotBuilt : Option Text → Type 0
-IsNotBuilt spec = IsSomeAnd spec (λ text. (MAX_SPEC < length text) ⊎ ((items : List Item) → SpellsFirst text items → ⊥))
+IsNotBuilt spec = IsSomeAnd spec (λ text. (length text ≤ MAX_SPEC) × (items : List Item) × SpellsWithin text items × (¬ IsFirstItems items))
+
+-- the specification spells one property of the first forms, of this name and formula
+abbrev pub IsProperty : Option Text → Text → Formula → Type 0
+IsProperty spec name f = IsSomeAnd spec (λ text. (length text ≤ MAX_SPEC) × SpellsWithin text (Prop name f ∷ []) × IsFirst f)
 
 -- these first bytes of a log are plain lines, and then the bytes of a line begun; the lines are events with these
 -- verdicts, by the definition of truth; and the body is the violations
@@ -95,8 +124,8 @@ LogBody NotBuilt name f log events body =
 LogBody (LogTooLong limit) name f log events body =
     (limit ≡ MAX_LOG) × IsSomeAnd log (λ all. (begun : Text) × (verdicts : List Bool) × (MAX_LOG < length all)
     × Judged name f (take MAX_LOG all) begun verdicts body × (may_become_plain begun ≡ true))
-LogBody (OpenFault Log) name f log events body = body ≡ []
-LogBody (ReadFault Log) name f log events body =
+LogBody (OpenFault file.Log) name f log events body = body ≡ []
+LogBody (ReadFault file.Log) name f log events body =
     IsSomeAnd log (λ all. (given : Text) × (rest : Text) × (begun : Text) × (verdicts : List Bool) × (all ≡ given ++ rest) × (length given ≤ MAX_LOG)
     × Judged name f given begun verdicts body × (may_become_plain begun ≡ true))
 LogBody _ name f log events body = ⊥
@@ -110,8 +139,10 @@ pub record Checked (end : End) (spec log : Option Text) (events : ℕ) (body : T
 
 -- what is written before the last line of an end that two words lead to
 abbrev pub IsBody : End → Option Text → Option Text → ℕ → Text → Type 0
-IsBody (OpenFault Spec) spec log events body = body ≡ []
-IsBody (ReadFault Spec) spec log events body = body ≡ []
+IsBody (OpenFault file.Spec) spec log events body = body ≡ []
+IsBody (ReadFault file.Spec) spec log events body = body ≡ []
+IsBody SpecTooLong spec log events body = IsTooLong spec × (body ≡ [])
+IsBody (Spec fault) spec log events body = HasFault spec fault × (body ≡ [])
 IsBody NotBuilt spec log events body = (IsNotBuilt spec × (body ≡ [])) ⊎ Checked NotBuilt spec log events body
 IsBody end spec log events body = Checked end spec log events body
 

@@ -1,5 +1,8 @@
 //! How a run ends.
 ghost use Rattle.std.specs.Prelude.{◌≡◌};
+ghost use Rattle.monitor_run.specs.Properties.{end_of_fault};
+
+use qtl_syntax::SpecFault;
 
 /// One of the two files that the words name.
 #[derive(Clone, Copy, Debug, PartialEq, Eq)]
@@ -17,7 +20,11 @@ pub enum End {
     Violated { count: u64 },
     /// There are not exactly two words.
     Usage,
-    /// The specification is none of the forms that are built, or a line of the log isn't plain.
+    /// The specification has more than 1,048,576 bytes.
+    SpecTooLong,
+    /// The specification has this fault, which is never want of memory.
+    Spec(SpecFault),
+    /// The specification isn't one property of the forms that are built, or a line of the log isn't plain.
     NotBuilt,
     /// The log has more than `limit` bytes, and nothing in these ended the run.
     LogTooLong { limit: u64 },
@@ -29,6 +36,17 @@ pub enum End {
     WriteFault,
     /// There was no memory.
     NoMemory,
+}
+
+impl From<SpecFault> for End {
+    ghost from_gives = { λ fault end. end ≡ end_of_fault fault };
+
+    fn from(fault: SpecFault) -> End {
+        match fault {
+            SpecFault::NoMemory => End::NoMemory,
+            _ => End::Spec(fault),
+        }
+    }
 }
 
 /// What a run answers.
@@ -52,6 +70,8 @@ impl End {
             End::AllTrue => 0,
             End::Violated { count: _ } => 1,
             End::Usage => 2,
+            End::SpecTooLong => 3,
+            End::Spec(_) => 3,
             End::LogTooLong { limit: _ } => 4,
             End::OpenFault { which: _ } => 6,
             End::ReadFault { which: _ } => 6,

@@ -1,9 +1,9 @@
 //! The last line of a run.
-ghost use Rattle.std.specs.Prelude.{◌≤◌, ◌++◌, OnOk, OnErr};
+ghost use Rattle.std.specs.Prelude.{◌≡◌, ◌≤◌, ◌++◌, OnOk, OnErr, codes, decimal};
 ghost use Rattle.mon_base.specs.Causes.{Rose, HasCause};
 ghost use Rattle.mon_base.specs.Told.{AppendsFront};
 ghost use Rattle.std.specs.Io.KnownBytes.{Appends};
-ghost use Rattle.monitor_run.specs.Answer.{last_line};
+ghost use Rattle.monitor_run.specs.Answer.{fault_line, file_text, last_line};
 ghost use Rattle.monitor_run.specs.Last.{Finishes};
 ghost use Rattle.monitor_run.specs.Passing.{Passes};
 
@@ -12,6 +12,7 @@ use crate::log::Reached;
 use crate::output::Output;
 use itoa::Buffer;
 use mon_base::{Failed, Sink};
+use qtl_syntax::SpecFault;
 
 /// Holds back the line that tells how many events and violations there were.
 fn put_counts<W: Sink>(
@@ -38,50 +39,89 @@ fn put_counts<W: Sink>(
     output.put_parts(out, &parts)
 }
 
-/// Holds back the line that tells the limit of a log.
-fn put_limit<W: Sink>(output: &mut Output, out: &mut W, limit: u64) -> Result<(), Failed>
-    ensures ok { OnOk result (Passes (W.written out.old) (W.written out.new) output.old output.new (last_line (End.LogTooLong limit) 0)) }
-    ensures err { OnErr result (AppendsFront (W.written out.old) (W.written out.new) (output.old ++ last_line (End.LogTooLong limit) 0)) }
+/// Holds back a line of three parts.
+fn put_line<W: Sink>(
+    output: &mut Output,
+    out: &mut W,
+    head: &[u8],
+    middle: &[u8],
+    tail: &[u8],
+) -> Result<(), Failed>
+    ensures ok { OnOk result (Passes (W.written out.old) (W.written out.new) output.old output.new (head.now ++ (middle.now ++ tail.now))) }
+    ensures err { OnErr result (AppendsFront (W.written out.old) (W.written out.new) (output.old ++ (head.now ++ (middle.now ++ tail.now)))) }
+    ensures cause { HasCause (W.faults out.old) (W.faults out.new) result }
+{
+    output.put_parts(out, &[head, middle, tail])
+}
+
+/// Holds back a line with a number in its middle.
+fn put_numbered<W: Sink>(
+    output: &mut Output,
+    out: &mut W,
+    head: &[u8],
+    number: u64,
+    tail: &[u8],
+) -> Result<(), Failed>
+    ensures ok { OnOk result (Passes (W.written out.old) (W.written out.new) output.old output.new (head.now ++ (decimal number ++ tail.now))) }
+    ensures err { OnErr result (AppendsFront (W.written out.old) (W.written out.new) (output.old ++ (head.now ++ (decimal number ++ tail.now)))) }
     ensures cause { HasCause (W.faults out.old) (W.faults out.new) result }
 {
     let mut buffer = Buffer::new();
-    let number = buffer.format(limit).as_bytes();
-    let parts = [b"stopped: log longer than ".as_slice(), number, b" bytes\n"];
-    output.put_parts(out, &parts)
+    let digits = buffer.format(number).as_bytes();
+    put_line(output, out, head, digits, tail)
 }
 
-/// Holds back the line that tells that a file could not be opened.
-fn put_open_fault<W: Sink>(
-    output: &mut Output,
-    out: &mut W,
-    which: Which,
-    events: u64,
-) -> Result<(), Failed>
-    ensures ok { OnOk result (Passes (W.written out.old) (W.written out.new) output.old output.new (last_line (End.OpenFault which) events)) }
-    ensures err { OnErr result (AppendsFront (W.written out.old) (W.written out.new) (output.old ++ last_line (End.OpenFault which) events)) }
+/// Holds back the line that tells why a specification is refused, and where.
+fn put_spec_fault<W: Sink>(output: &mut Output, out: &mut W, fault: SpecFault) -> Result<(), Failed>
+    ensures ok { OnOk result (Passes (W.written out.old) (W.written out.new) output.old output.new (fault_line fault)) }
+    ensures err { OnErr result (AppendsFront (W.written out.old) (W.written out.new) (output.old ++ fault_line fault)) }
     ensures cause { HasCause (W.faults out.old) (W.faults out.new) result }
 {
-    match which {
-        Which::Spec => output.put(out, b"stopped: cannot open the specification\n"),
-        Which::Log => output.put(out, b"stopped: cannot open the log\n"),
+    match fault {
+        SpecFault::NotToken { at } => {
+            put_numbered(output, out, b"stopped: no token at byte ", at, b"\n")
+        }
+        SpecFault::Syntax { at } => {
+            put_numbered(output, out, b"stopped: syntax at token ", at, b"\n")
+        }
+        SpecFault::TooDeep { at } => {
+            put_numbered(output, out, b"stopped: too deep at token ", at, b"\n")
+        }
+        SpecFault::BoundTooLarge { at } => {
+            put_numbered(
+                output,
+                out,
+                b"stopped: bound too large at token ",
+                at,
+                b"\n",
+            )
+        }
+        SpecFault::NoMemory => output.put(out, b""),
     }
 }
 
-/// Holds back the line that tells that a read of a file failed.
-fn put_read_fault<W: Sink>(
-    output: &mut Output,
-    out: &mut W,
-    which: Which,
-    events: u64,
-) -> Result<(), Failed>
-    ensures ok { OnOk result (Passes (W.written out.old) (W.written out.new) output.old output.new (last_line (End.ReadFault which) events)) }
-    ensures err { OnErr result (AppendsFront (W.written out.old) (W.written out.new) (output.old ++ last_line (End.ReadFault which) events)) }
-    ensures cause { HasCause (W.faults out.old) (W.faults out.new) result }
+/// How a last line calls the file.
+fn name_of(which: Which) -> &'static [u8]
+    ensures { result.now ≡ file_text which }
 {
     match which {
-        Which::Spec => output.put(out, b"stopped: read fault in the specification\n"),
-        Which::Log => output.put(out, b"stopped: read fault in the log\n"),
+        Which::Spec => b"the specification",
+        Which::Log => b"the log",
     }
+}
+
+/// Holds back the line that tells what failed, and in which file.
+fn put_file_fault<W: Sink>(
+    output: &mut Output,
+    out: &mut W,
+    head: &[u8],
+    which: Which,
+) -> Result<(), Failed>
+    ensures ok { OnOk result (Passes (W.written out.old) (W.written out.new) output.old output.new (head.now ++ (file_text which ++ codes "\n"))) }
+    ensures err { OnErr result (AppendsFront (W.written out.old) (W.written out.new) (output.old ++ (head.now ++ (file_text which ++ codes "\n")))) }
+    ensures cause { HasCause (W.faults out.old) (W.faults out.new) result }
+{
+    put_line(output, out, head, name_of(which), b"\n")
 }
 
 /// Holds back the last line of a run that ends so after these events.
@@ -94,10 +134,20 @@ fn put_last<W: Sink>(output: &mut Output, out: &mut W, end: End, events: u64) ->
         End::AllTrue => put_counts(output, out, events, 0),
         End::Violated { count } => put_counts(output, out, events, count),
         End::Usage => output.put(out, b"stopped: usage: dejavu SPEC LOG\n"),
+        End::SpecTooLong => output.put(out, b"stopped: specification longer than 1048576 bytes\n"),
+        End::Spec(fault) => put_spec_fault(output, out, fault),
         End::NotBuilt => output.put(out, b"stopped: not built\n"),
-        End::LogTooLong { limit } => put_limit(output, out, limit),
-        End::OpenFault { which } => put_open_fault(output, out, which, events),
-        End::ReadFault { which } => put_read_fault(output, out, which, events),
+        End::LogTooLong { limit } => {
+            put_numbered(
+                output,
+                out,
+                b"stopped: log longer than ",
+                limit,
+                b" bytes\n",
+            )
+        }
+        End::OpenFault { which } => put_file_fault(output, out, b"stopped: cannot open ", which),
+        End::ReadFault { which } => put_file_fault(output, out, b"stopped: read fault in ", which),
         End::WriteFault => output.put(out, b""),
         End::NoMemory => output.put(out, b""),
     }

@@ -12,7 +12,7 @@ use crate::end::{End, Which};
 use crate::judge::Judge;
 use crate::{MAX_SPEC, watch};
 use mon_base::{Files, NoMemory, OpenEnd, Source};
-use qtl_syntax::{FirstEnd, Formula, Item, Spec, Text, parse};
+use qtl_syntax::{Formula, Item, Spec, Text, is_first_spec, parse};
 use std::alloc::Global;
 
 /// A read of a specification asks for so many bytes.
@@ -81,7 +81,7 @@ fn read_spec<F: Files>(alloc: Global, name: &str, files: &mut F) -> Result<Vec<u
             files.close(source);
             match text {
                 Ok(text) => Ok(text),
-                Err(TextEnd::TooLong) => Err(End::NotBuilt),
+                Err(TextEnd::TooLong) => Err(End::SpecTooLong),
                 Err(TextEnd::Failed) => Err(End::ReadFault { which: Which::Spec }),
                 Err(TextEnd::NoMemory) => Err(End::NoMemory),
             }
@@ -138,16 +138,15 @@ fn judge_of(alloc: Global, property: Property) -> Result<Judge, NoMemory>
     })
 }
 
-/// The judge of the property that the text spells.
+/// The judge of the property that the text spells, which is to be of the first forms.
 pub fn judge_in(alloc: Global, text: &[u8]) -> Result<Judge, End>
     ensures ok { IfOk result (λ judge. IsSpelled text.now judge) }
     ensures err { IfErr result (λ end. IsUnspelled text.now end) }
 {
-    let spec = match parse(alloc, text) {
-        Ok(spec) => spec,
-        Err(FirstEnd::NotBuilt) => return Err(End::NotBuilt),
-        Err(FirstEnd::NoMemory) => return Err(End::NoMemory),
-    };
+    let spec = parse(alloc, text)?;
+    if !is_first_spec(&spec) {
+        return Err(End::NotBuilt);
+    }
     match judge_of(alloc, only_property(spec)) {
         Ok(judge) => Ok(judge),
         Err(_) => Err(End::NoMemory),

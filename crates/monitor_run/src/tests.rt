@@ -139,6 +139,37 @@ fn reports_in_pieces_of_any_size(rt: HostRuntime) -> Result<(), Fail> {
         row("prop r : P go", "go\n", "stopped: not built\n", 8),
         row("prop r : go prop s : go", "go\n", "stopped: not built\n", 8),
         row(
+            "prop r : exists x . p(x)",
+            "go\n",
+            "stopped: not built\n",
+            8,
+        ),
+        row("pred m() = a prop r : b", "go\n", "stopped: not built\n", 8),
+        row(
+            "prop r : P[<=1048574] go",
+            "go\n",
+            "stopped: not built\n",
+            8,
+        ),
+        row(
+            "prop p : forall x . p(x",
+            "go\n",
+            "stopped: syntax at token 9\n",
+            3,
+        ),
+        row(
+            "prop prop r : a ? b",
+            "go\n",
+            "stopped: no token at byte 16\n",
+            3,
+        ),
+        row(
+            "prop r : P[<=1048575] go)",
+            "go\n",
+            "stopped: bound too large at token 6\n",
+            3,
+        ),
+        row(
             "prop r : p(\"a,b\")",
             "p,a,b\n",
             "violation 1 r\nevents 1 violations 1\n",
@@ -241,14 +272,15 @@ fn filled(
     Ok(text)
 }
 
-/// A file that gives these bytes in large pieces.
-fn large_file(alloc: Global, name: &str, bytes: Vec<u8>) -> Result<MemFile, NoMemory>
+/// A file that gives these bytes, the first ones in pieces of this size.
+fn large_file(alloc: Global, name: &str, bytes: Vec<u8>, size: usize) -> Result<MemFile, NoMemory>
+    requires { 1 ≤ size }
     ensures { IfOk result (λ f. All (λ n. 1 ≤ n) f.pieces.items) }
 {
     Ok(MemFile {
         name: String::from_str(alloc, name)?,
         bytes,
-        pieces: pieces_of(alloc, 30_000)?,
+        pieces: pieces_of(alloc, size)?,
         fail_at: Vec::new(alloc),
         refuse: false,
     })
@@ -259,26 +291,65 @@ fn limits_are_met_and_not_passed(rt: HostRuntime) -> Result<(), Fail> {
     let alloc = rt.alloc();
     let kept = "violation 1 r\nevents 1 violations 1\n";
     let stopped = "stopped: not built\n";
-    let cases: [(&[u8], u8, usize, usize, &str); 9] = [
-        (b"a", b'a', 65_535, 0, kept),
-        (b"a", b'a', 65_536, 0, stopped),
-        (b"a", b'a', 300_000, 0, stopped),
-        (b"a", b',', 63, 0, kept),
-        (b"a", b',', 64, 0, stopped),
-        (b",", b'a', 1, 0, stopped),
-        (b"a", b'~', 1, 0, kept),
-        (b"a", b'a', 1, 1_048_564, kept),
-        (b"a", b'a', 1, 1_048_565, stopped),
+    let cases: [(&[u8], u8, usize, &str); 7] = [
+        (b"a", b'a', 65_535, kept),
+        (b"a", b'a', 65_536, stopped),
+        (b"a", b'a', 300_000, stopped),
+        (b"a", b',', 63, kept),
+        (b"a", b',', 64, stopped),
+        (b",", b'a', 1, stopped),
+        (b"a", b'~', 1, kept),
     ];
-    for (head, byte, count, blanks, report) in cases {
-        let spec = filled(alloc, b"prop r : z()", b' ', blanks, b"")?;
+    for (head, byte, count, report) in cases {
         let log = filled(alloc, head, byte, count, b"\n")?;
-        let spec = large_file(alloc, "s", spec)?;
-        let log = large_file(alloc, "l", log)?;
+        let spec = file_of(alloc, "s", "prop r : z()", 1000, None)?;
+        let log = large_file(alloc, "l", log, 30_000)?;
         let mut files = files_of(alloc, spec, log)?;
         let mut out = MemSink::open(alloc, 1000)?;
         run_over(alloc, &["s", "l"], &mut files, &mut out)?;
-        assert_eq!(rt; out.bytes(), report.as_bytes(), "{count} and {blanks}");
+        assert_eq!(rt; out.bytes(), report.as_bytes(), "{count}");
+    }
+    Ok(())
+}
+
+#[test]
+fn a_specification_keeps_its_limits(rt: HostRuntime) -> Result<(), Fail> {
+    let alloc = rt.alloc();
+    let kept = "violation 1 r\nevents 1 violations 1\n";
+    let too_long = "stopped: specification longer than 1048576 bytes\n";
+    let cases: [(&[u8], u8, usize, &[u8], &str, u8); 6] = [
+        (b"prop r : z()", b' ', 1_048_564, b"", kept, 1),
+        (b"prop r : z()", b' ', 1_048_565, b"", too_long, 3),
+        (b"", b' ', 1_048_576, b"", "stopped: not built\n", 8),
+        (b"", b' ', 1_048_577, b"", too_long, 3),
+        (
+            b"prop r : ",
+            b'!',
+            255,
+            b"z()",
+            "events 1 violations 0\n",
+            0,
+        ),
+        (
+            b"prop r : ",
+            b'!',
+            256,
+            b"z()",
+            "stopped: too deep at token 258\n",
+            3,
+        ),
+    ];
+    for (head, byte, count, tail, report, status) in cases {
+        for size in [1usize, 30_000] {
+            let spec = filled(alloc, head, byte, count, tail)?;
+            let spec = large_file(alloc, "s", spec, size)?;
+            let log = file_of(alloc, "l", "a\n", size, None)?;
+            let mut files = files_of(alloc, spec, log)?;
+            let mut out = MemSink::open(alloc, 1000)?;
+            let outcome = run_over(alloc, &["s", "l"], &mut files, &mut out)?;
+            assert_eq!(rt; out.bytes(), report.as_bytes(), "{count}");
+            assert_eq!(rt; outcome.status, status, "{count}");
+        }
     }
     Ok(())
 }

@@ -8,6 +8,7 @@ use crate::last::finish;
 use crate::output::Output;
 use crate::session::session;
 use mon_base::{Files, Sink, Steps};
+use qtl_syntax::one_answer;
 use std::alloc::Global;
 use std::sync::ledger::Ledger;
 
@@ -27,6 +28,8 @@ fn run_to_end<F: Files, W: Sink>(alloc: Global, words: &[String], files: &mut F,
         Err(_) => return End::NoMemory,
     };
     let reached = session(alloc, words, files, &mut output, out);
+    // A law, for the clause `exact`: it does nothing.
+    one_answer();
     finish(&mut output, out, reached)
 }
 

@@ -24,13 +24,13 @@ use Rattle.qtl_syntax.proofs.CompleteItems.{none, was_some, complete_items}
 use Rattle.qtl_syntax.proofs.SoundItems.{SpotRead, sound_items, spells_higher}
 use Rattle.qtl_syntax.proofs.Reach.{begins_reached, reached_begins, reached_read, begins_higher, run_one}
 
-one_longer : (a : List Token) (t : Token) → length (a ++ t ∷ []) ≡ length a + 1
+pub one_longer : (a : List Token) (t : Token) → length (a ++ t ∷ []) ≡ length a + 1
 one_longer a t = simp length-append (refl)
 
-take_front : (a b : List Token) (n : ℕ) → n ≡ length a → take n (a ++ b) ≡ a
+pub take_front : (a b : List Token) (n : ℕ) → n ≡ length a → take n (a ++ b) ≡ a
 take_front a b n e = rw e (take-append_seam a b)
 
-take_more : (a b : List Token) (t : Token) (n : ℕ) → n ≡ length a → take (n + 1) (a ++ (t ∷ b)) ≡ a ++ t ∷ []
+pub take_more : (a b : List Token) (t : Token) (n : ℕ) → n ≡ length a → take (n + 1) (a ++ (t ∷ b)) ≡ a ++ t ∷ []
 take_more a b t n e =
     let l : n + 1 ≡ length (a ++ t ∷ []) = ap (λ m. m + 1) e ∙ sym (one_longer a t) in
     ap (take (n + 1)) (sym (append_assoc a (t ∷ []) b)) ∙ take_front (a ++ t ∷ []) b (n + 1) l
@@ -54,7 +54,7 @@ last_of : (t : Token) (ts : List Token) → Last (t ∷ ts)
 last_of t [] = record { front = []; last = t; whole = refl }
 last_of t (u ∷ ts) = let x = last_of u ts in record { front = t ∷ x.front; last = x.last; whole = ap (λ v. t ∷ v) x.whole }
 
-last_at : (ts : List Token) (i : ℕ) → length ts ≡ i + 1 → Last ts
+pub last_at : (ts : List Token) (i : ℕ) → length ts ≡ i + 1 → Last ts
 last_at [] i e = absurd (omega arith)
 last_at (t ∷ ts) i e = last_of t ts
 
@@ -89,7 +89,7 @@ compared_moved : (o : Option Spot) (p : Place) (spot : Spot) (t : Token) (q : Pl
 compared_moved None p spot t q c n e = none q e
 compared_moved (Some r) p spot t q c n e = rw (was_some _ _ e) (compared_spot spot t r c n)
 
-compared_place : (p : Place) (spot : Spot) (t : Token) (q : Place) → IsCompare t → place_next p spot t (begun t) ≡ Some q → WantsNumber q.spot
+pub compared_place : (p : Place) (spot : Spot) (t : Token) (q : Place) → IsCompare t → place_next p spot t (begun t) ≡ Some q → WantsNumber q.spot
 compared_place p (Inside head s) (Sign sign.AtMost) q c e = compared_moved (spot_next (Inside head s) (Sign sign.AtMost)) p (Inside head s) (Sign sign.AtMost) q c refl e
 compared_place p (Inside head s) (Sign sign.MoreThan) q c e = compared_moved (spot_next (Inside head s) (Sign sign.MoreThan)) p (Inside head s) (Sign sign.MoreThan) q c refl e
 compared_place p spot (Sign sign.AtMost) q c e = compared_moved (spot_next spot (Sign sign.AtMost)) p spot (Sign sign.AtMost) q c refl e
@@ -100,7 +100,7 @@ large : (spot : Spot) (n : Text) → WantsNumber spot → 1048574 < decimal_from
 large (Inside head (OfNumber frames w most)) n c h = lt-ltb 1048574 (decimal_from 0 n) h
 large _ n c h = absurd c
 
-run_front : (a b : List Token) (p q : Place) → run p (a ++ b) ≡ Some q → (r : Place) × (run p a ≡ Some r)
+pub run_front : (a b : List Token) (p q : Place) → run p (a ++ b) ≡ Some q → (r : Place) × (run p a ≡ Some r)
 run_front [] b p q e = (p, refl)
 run_front (t ∷ a) b p q e = front_step (next_place p t) a b q e (λ r h. run_front a b r q h)
   where
@@ -152,7 +152,7 @@ too_large before rest t p n l e g =
     let two = there before rest t n l ∙ ap Some x.number in
     (x.digits, x.before, length z, i, one, x.is_compare, two, x.large)
 
-is_compare : (s : TheSign) → ((s ≡ sign.AtMost) ⊎ (s ≡ sign.MoreThan)) → IsCompare (Sign s)
+pub is_compare : (s : TheSign) → ((s ≡ sign.AtMost) ⊎ (s ≡ sign.MoreThan)) → IsCompare (Sign s)
 is_compare s (inl e) = rw e tt
 is_compare s (inr e) = rw e tt
 
@@ -225,10 +225,10 @@ begins_none before t p h e n b =
     let no : None ≡ Some x.0 = sym n ∙ (sym (run_one before t beginning p e) ∙ x.1) in
     none _ no
 
-reached_one : (before : List Token) (t : Token) (p q : Place) → run beginning before ≡ Some p → next_place p t ≡ Some q → run beginning (before ++ t ∷ []) ≡ Some q
+pub reached_one : (before : List Token) (t : Token) (p q : Place) → run beginning before ≡ Some p → next_place p t ≡ Some q → run beginning (before ++ t ∷ []) ≡ Some q
 reached_one before t p q e n = run_one before t beginning p e ∙ n
 
-lowest : (ts : List Token) (q : Place) (h : ℕ) → run beginning ts ≡ Some q → BeginsWithin h ts → least_of q ≤ h
+pub lowest : (ts : List Token) (q : Place) (h : ℕ) → run beginning ts ≡ Some q → BeginsWithin h ts → least_of q ≤ h
 lowest ts q h e b =
     let x = begins_reached h ts b in
     let same : Some q ≡ Some x.0 = sym e ∙ x.1 in

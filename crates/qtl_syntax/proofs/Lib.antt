@@ -13,7 +13,8 @@ pub mod SoundItems
 pub mod Reach
 pub mod Law
 pub mod StopLaw
-pub mod FirstLaw
+pub mod FaultLaw
+pub mod OneFaultLaw
 pub mod LawfulTree
 pub mod Digits
 pub mod Worked

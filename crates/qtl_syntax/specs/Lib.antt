@@ -1,6 +1,6 @@
 pub mod Answer
 pub mod Cuts
-pub mod Ends
+pub mod Faults
 pub mod FirstForms
 pub mod Grammar
 pub mod Judge

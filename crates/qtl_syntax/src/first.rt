@@ -1,46 +1,11 @@
-//! A specification of the first forms, from its text: one property, made of names with constants,
-//! `!` and `S` without a bound.
-ghost use Rattle.std.specs.Prelude.{◌≡◌, ◌↔◌, List, IsTrue, IfOk, IsErrOf, map};
-ghost use Rattle.qtl_syntax.specs.Tree.{Item as TheItem, formula_of, item_of, items_of};
-ghost use Rattle.qtl_syntax.specs.FirstForms.{AreConstant, IsFirst, IsFirstItems, SpellsFirst};
-ghost use Rattle.qtl_syntax.specs.Ends.{end_of_tokens, end_of_items};
-ghost use Rattle.qtl_syntax.specs.declared.first.FirstEnd.TheVariants.{NotBuilt};
+//! Which specifications are of the first forms: one property, made of names with constants, `!`
+//! and `S` without a bound.
+ghost use Rattle.std.specs.Prelude.{◌↔◌, IsTrue, map};
+ghost use Rattle.qtl_syntax.specs.Tree.{formula_of, item_of, items_of};
+ghost use Rattle.qtl_syntax.specs.FirstForms.{AreConstant, IsFirst, IsFirstItems};
 
 use crate::formula::{Formula, Item, Term};
-use crate::read::{ReadEnd, read_items};
-use crate::scan::{TokenEnd, tokens};
 use crate::spec::Spec;
-use std::alloc::Global;
-
-/// Why a text gives no specification of the first forms.
-#[derive(Clone, Copy, Debug, PartialEq, Eq)]
-pub enum FirstEnd {
-    /// The text's tokens spell none, or the text is not cut into tokens.
-    NotBuilt,
-    NoMemory,
-}
-
-impl From<TokenEnd> for FirstEnd {
-    ghost from_gives = { λ end e. e ≡ end_of_tokens end };
-
-    fn from(end: TokenEnd) -> FirstEnd {
-        match end {
-            TokenEnd::NotToken { .. } => FirstEnd::NotBuilt,
-            TokenEnd::NoMemory => FirstEnd::NoMemory,
-        }
-    }
-}
-
-impl From<ReadEnd> for FirstEnd {
-    ghost from_gives = { λ end e. e ≡ end_of_items end };
-
-    fn from(end: ReadEnd) -> FirstEnd {
-        match end {
-            ReadEnd::NoMemory => FirstEnd::NoMemory,
-            _ => FirstEnd::NotBuilt,
-        }
-    }
-}
 
 fn are_constant(terms: &[Term]) -> bool
     ensures { IsTrue result ↔ AreConstant terms.now }
@@ -73,17 +38,9 @@ fn are_first(items: &[Item]) -> bool
     }
 }
 
-/// The specification of the first forms that the text spells, no formula being higher than 256.
-/// Parentheses count for the height. `NotBuilt` comes where there is none.
-pub fn parse(alloc: Global, text: &[u8]) -> Result<Spec, FirstEnd>
-    ensures ok { IfOk result (λ spec. SpellsFirst text.now (items_of spec)) }
-    ensures only { IfOk result (λ spec. (items : List TheItem) → SpellsFirst text.now items → items ≡ items_of spec) }
-    ensures not_built { IsErrOf result NotBuilt → (items : List TheItem) → SpellsFirst text.now items → ⊥ }
+/// Whether the specification is one property of the first forms.
+pub fn is_first_spec(spec: &Spec) -> bool
+    ensures { IsTrue result ↔ IsFirstItems (items_of spec.now) }
 {
-    let tokens = tokens(alloc, text)?;
-    let items = read_items(alloc, tokens.as_slice())?;
-    if !are_first(items.as_slice()) {
-        return Err(FirstEnd::NotBuilt);
-    }
-    Ok(Spec { items })
+    are_first(spec.items.as_slice())
 }

@@ -1,10 +1,12 @@
 //! Specifications as they are written: texts, tokens, terms, formulas and items.
 #![tactic(auto)]
 
+mod fault;
 mod first;
 mod forms;
 mod formula;
 mod fronts;
+mod laws;
 mod next;
 mod operator;
 mod place;
@@ -17,8 +19,10 @@ mod step;
 mod text;
 mod token;
 
-pub use first::{FirstEnd, parse};
+pub use fault::{SpecFault, parse};
+pub use first::is_first_spec;
 pub use formula::{Bound, Formula, Item, Term};
+pub use laws::one_answer;
 pub use operator::{Binary, Prefix, Quantifier};
 pub use scan::{TokenEnd, tokens};
 pub use spec::Spec;

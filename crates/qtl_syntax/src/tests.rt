@@ -1,5 +1,7 @@
 //! Texts that were worked out by hand from the rules of the language.
-use crate::{FirstEnd, Formula, Item, Term, Text, Token, TokenEnd, parse, tokens};
+use crate::{
+    Formula, Item, SpecFault, Term, Text, Token, TokenEnd, is_first_spec, parse, tokens,
+};
 use std::alloc::{AllocError, Global};
 use std::cmp::Ordering;
 use std::test::Fail;
@@ -46,18 +48,30 @@ fn write_item(out: &mut Vec<u8>, item: &Item) -> Result<(), AllocError> {
     Ok(())
 }
 
+/// The tree, behind a mark where it is not of the first forms, or the fault.
 fn parsed(alloc: Global, text: &[u8]) -> Result<Vec<u8>, AllocError> {
     match parse(alloc, text) {
         Ok(spec) => {
             let mut out = Vec::new(alloc);
+            if !is_first_spec(&spec) {
+                out.push(b'*')?;
+            }
             for item in spec.items.as_slice() {
                 write_item(&mut out, item)?;
             }
             Ok(out)
         }
-        Err(FirstEnd::NotBuilt) => b"not built".to_vec(alloc),
-        Err(FirstEnd::NoMemory) => b"no memory".to_vec(alloc),
+        Err(SpecFault::NotToken { at }) => told(alloc, "no token", at),
+        Err(SpecFault::Syntax { at }) => told(alloc, "syntax", at),
+        Err(SpecFault::TooDeep { at }) => told(alloc, "too deep", at),
+        Err(SpecFault::BoundTooLarge { at }) => told(alloc, "bound too large", at),
+        Err(SpecFault::NoMemory) => b"no memory".to_vec(alloc),
     }
+}
+
+fn told(alloc: Global, what: &str, at: u64) -> Result<Vec<u8>, AllocError> {
+    let line = format!(in alloc; "{what} {at}")?;
+    line.as_bytes().to_vec(alloc)
 }
 
 #[test]
@@ -79,32 +93,25 @@ fn texts_of_the_first_forms(rt: HostRuntime) -> Result<(), Fail> {
 }
 
 #[test]
-fn texts_of_no_first_form(rt: HostRuntime) -> Result<(), Fail> {
-    for text in [
-        "",
-        "prop r :",
-        "prop r : P go",
-        "prop r : P(x)",
-        "prop r : p(x)",
-        "prop r : p(\"a\",)",
-        "prop r : a S[<=5] b",
-        "prop r : P[<=1048575] p",
-        "prop r : p(\"x",
-        "prop r : a - b",
-        "prop S : p",
-        "prop r : (p",
-        "prop r : p prop s : q",
-        "pred m() = p",
+fn texts_that_are_refused(rt: HostRuntime) -> Result<(), Fail> {
+    for (text, want) in [
+        ("prop r :", "syntax 3"),
+        ("prop r : p(\"a\",)", "syntax 7"),
+        ("prop r : P[<=1048575] p", "bound too large 6"),
+        ("prop r : p(\"x", "no token 11"),
+        ("prop r : a - b", "no token 11"),
+        ("prop S : p", "syntax 1"),
+        ("prop r : (p", "syntax 5"),
     ] {
         let got = parsed(rt.alloc(), text.as_bytes())?;
-        assert_eq!(rt; got.as_slice(), b"not built".as_slice(), "{text}");
+        assert_eq!(rt; got.as_slice(), want.as_bytes(), "{text}");
     }
     Ok(())
 }
 
 #[test]
 fn formulas_are_at_most_256_high(rt: HostRuntime) -> Result<(), Fail> {
-    for (nots, want) in [(255, None), (256, Some(FirstEnd::NotBuilt))] {
+    for (nots, want) in [(255, None), (256, Some(SpecFault::TooDeep { at: 258 }))] {
         let mut text = b"prop t :".to_vec(rt.alloc())?;
         for _ in 0..nots {
             text.push(b'!')?;

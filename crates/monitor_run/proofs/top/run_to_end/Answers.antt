@@ -1,5 +1,5 @@
 use Rattle.monitor_run.proofs.Ending.{ended_told}
-use Rattle.monitor_run.proofs.OneReport.{told_exact}
+use Rattle.monitor_run.proofs.OneReport.{OneAnswer, told_exact}
 use Rattle.monitor_run.proofs.top.run_to_end.Goals as goal
 
 pub returns-clause-bytes : goal.returns-clause-bytes
@@ -8,4 +8,9 @@ returns-clause-bytes g c =
 
 pub returns-clause-exact : goal.returns-clause-exact
 returns-clause-exact g c =
-    told_exact (g.F.Files.texts c.args.files.now) _ _ _ _ _ (ended_told (g.F.Files.texts c.args.files.now) _ _ _ _ _ _ _ c.session-reached.new.output c.session-reached.result.end c.finish.result c.session-reached.result.events c.session-reached.ensures.cause c.session-reached.ensures.bytes c.finish.ensures.bytes)
+    let laws : OneAnswer = record {
+      one_fault = c.one_answer.ensures.one_fault;
+      never_both = c.one_answer.ensures.never_both;
+      one_specification = c.one_answer.ensures.one_specification;
+    } in
+    told_exact laws (g.F.Files.texts c.args.files.now) _ _ _ _ _ (ended_told (g.F.Files.texts c.args.files.now) _ _ _ _ _ _ _ c.session-reached.new.output c.session-reached.result.end c.finish.result c.session-reached.result.events c.session-reached.ensures.cause c.session-reached.ensures.bytes c.finish.ensures.bytes)
