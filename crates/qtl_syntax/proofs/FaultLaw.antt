@@ -1,18 +1,11 @@
 -- A text has one fault or spells one specification, and never both.
-use Rattle.std.proofs.Common.{◌≡◌, ℕ, List, refl, sym, subst}
-use Rattle.std.specs.Prelude.{Result, Ok, Err, IfErr, IsErrAnd}
+use Rattle.std.proofs.Common.{◌≡◌, ℕ, List, subst}
 use Rattle.qtl_syntax.specs.declared.token.Token.{Token}
-use Rattle.qtl_syntax.specs.declared.scan.TokenEnd.{TokenEnd}
-use Rattle.qtl_syntax.specs.declared.scan.TokenEnd.TheVariants as token_end
-use Rattle.qtl_syntax.specs.declared.read.ReadEnd.{ReadEnd}
-use Rattle.qtl_syntax.specs.declared.read.ReadEnd.TheVariants as read_end
-use Rattle.qtl_syntax.specs.declared.fault.SpecFault.{SpecFault}
 use Rattle.qtl_syntax.specs.Tree.{Item}
 use Rattle.qtl_syntax.specs.Cuts.{Cuts}
 use Rattle.qtl_syntax.specs.Grammar.{Spells}
 use Rattle.qtl_syntax.specs.Places.{Refusal, IsRefusedAt}
-use Rattle.qtl_syntax.specs.Answer.{IsRefusal, IsRefusedBy}
-use Rattle.qtl_syntax.specs.Faults.{SpellsText, RuleHolds, IsFault, fault_of_tokens, fault_of_items}
+use Rattle.qtl_syntax.specs.Faults.{SpellsText, RuleHolds}
 use Rattle.qtl_syntax.proofs.Once.{cuts_once}
 use Rattle.qtl_syntax.proofs.Law.{one_specification}
 

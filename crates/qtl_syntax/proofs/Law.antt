@@ -24,13 +24,13 @@ use Rattle.qtl_syntax.proofs.CompleteItems.{none, was_some, complete_items}
 use Rattle.qtl_syntax.proofs.SoundItems.{SpotRead, sound_items, spells_higher}
 use Rattle.qtl_syntax.proofs.Reach.{begins_reached, reached_begins, reached_read, begins_higher, run_one}
 
-pub one_longer : (a : List Token) (t : Token) → length (a ++ t ∷ []) ≡ length a + 1
+one_longer : (a : List Token) (t : Token) → length (a ++ t ∷ []) ≡ length a + 1
 one_longer a t = simp length-append (refl)
 
-pub take_front : (a b : List Token) (n : ℕ) → n ≡ length a → take n (a ++ b) ≡ a
+take_front : (a b : List Token) (n : ℕ) → n ≡ length a → take n (a ++ b) ≡ a
 take_front a b n e = rw e (take-append_seam a b)
 
-pub take_more : (a b : List Token) (t : Token) (n : ℕ) → n ≡ length a → take (n + 1) (a ++ (t ∷ b)) ≡ a ++ t ∷ []
+take_more : (a b : List Token) (t : Token) (n : ℕ) → n ≡ length a → take (n + 1) (a ++ (t ∷ b)) ≡ a ++ t ∷ []
 take_more a b t n e =
     let l : n + 1 ≡ length (a ++ t ∷ []) = ap (λ m. m + 1) e ∙ sym (one_longer a t) in
     ap (take (n + 1)) (sym (append_assoc a (t ∷ []) b)) ∙ take_front (a ++ t ∷ []) b (n + 1) l
@@ -54,7 +54,7 @@ last_of : (t : Token) (ts : List Token) → Last (t ∷ ts)
 last_of t [] = record { front = []; last = t; whole = refl }
 last_of t (u ∷ ts) = let x = last_of u ts in record { front = t ∷ x.front; last = x.last; whole = ap (λ v. t ∷ v) x.whole }
 
-pub last_at : (ts : List Token) (i : ℕ) → length ts ≡ i + 1 → Last ts
+last_at : (ts : List Token) (i : ℕ) → length ts ≡ i + 1 → Last ts
 last_at [] i e = absurd (omega arith)
 last_at (t ∷ ts) i e = last_of t ts
 
@@ -228,7 +228,7 @@ begins_none before t p h e n b =
 pub reached_one : (before : List Token) (t : Token) (p q : Place) → run beginning before ≡ Some p → next_place p t ≡ Some q → run beginning (before ++ t ∷ []) ≡ Some q
 reached_one before t p q e n = run_one before t beginning p e ∙ n
 
-pub lowest : (ts : List Token) (q : Place) (h : ℕ) → run beginning ts ≡ Some q → BeginsWithin h ts → least_of q ≤ h
+lowest : (ts : List Token) (q : Place) (h : ℕ) → run beginning ts ≡ Some q → BeginsWithin h ts → least_of q ≤ h
 lowest ts q h e b =
     let x = begins_reached h ts b in
     let same : Some q ≡ Some x.0 = sym e ∙ x.1 in

@@ -18,3 +18,9 @@ pub mod OneFaultLaw
 pub mod LawfulTree
 pub mod Digits
 pub mod Worked
+pub mod Shown
+pub mod ShownLaw
+pub mod Decimals
+pub mod ShownCut
+pub mod PrintLaw
+pub mod Written

@@ -224,7 +224,7 @@ number_finds (b ∷ bs) more e =
       omega arith,
     )
 
-word_form : (w : Word) → is_name_form (word_text w) ≡ true
+pub word_form : (w : Word) → is_name_form (word_text w) ≡ true
 word_form word.Prop = refl
 word_form word.Pred = refl
 word_form word.Exists = refl

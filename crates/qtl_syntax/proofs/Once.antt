@@ -45,7 +45,7 @@ all_same p (x ∷ xs) e =
     let h = all_same p xs q.1 in
     (pick (p x) (x ∷ front_of p xs) [] q.0 ∙ ap (λ v. x ∷ v) h.0, pick (p x) (behind p xs) (x ∷ xs) q.0 ∙ h.1)
 
-not_any : (ws : List Word) (bs : List ℕ) → list_any (λ w. bytes_eq (word_text w) bs) ws ≡ false → find_word ws bs ≡ None
+pub not_any : (ws : List Word) (bs : List ℕ) → list_any (λ w. bytes_eq (word_text w) bs) ws ≡ false → find_word ws bs ≡ None
 not_any [] bs e = refl
 not_any (v ∷ ws) bs e = any_step (bytes_eq (word_text v) bs) v ws bs e (not_any ws bs)
   where
@@ -54,7 +54,7 @@ not_any (v ∷ ws) bs e = any_step (bytes_eq (word_text v) bs) v ws bs e (not_an
     any_step true v ws bs e go = cc
     any_step false v ws bs e go = go e
 
-was_not : (b : Bool) → not b ≡ true → b ≡ false
+pub was_not : (b : Bool) → not b ≡ true → b ≡ false
 was_not true e = cc
 was_not false e = refl
 

@@ -1,5 +1,5 @@
 -- A text has at most one fault, and then spells nothing within the limits.
-use Rattle.std.proofs.Common.{◌≡◌, ℕ, zero, suc, ◌+◌, ◌<◌, ◌≤◌, List, [], ◌∷◌, ◌++◌, length, take, drop, Some, max, refl, sym, ap, ◌∙◌, subst, arith, add-one, inl, inr}
+use Rattle.std.proofs.Common.{◌≡◌, ℕ, zero, suc, ◌+◌, ◌≤◌, List, [], ◌∷◌, ◌++◌, take, drop, Some, max, refl, sym, ap, ◌∙◌, subst, arith, add-one, inl, inr}
 use Rattle.std.specs.Prelude.{slice_get}
 use Rattle.std.proofs.lemmas.Option.{slice_get_within}
 use Rattle.std.proofs.lemmas.List.{take-append-drop}
@@ -8,7 +8,6 @@ use Rattle.qtl_syntax.specs.declared.token.Token.TheVariants.{Number, Sign}
 use Rattle.qtl_syntax.specs.declared.fault.SpecFault.{SpecFault}
 use Rattle.qtl_syntax.specs.declared.fault.SpecFault.TheVariants as fault
 use Rattle.qtl_syntax.specs.Tree.{Text, Item}
-use Rattle.qtl_syntax.specs.Cuts.{Cuts}
 use Rattle.qtl_syntax.specs.Grammar.{Spells}
 use Rattle.qtl_syntax.specs.Places.{BeginsWithin, Refusal, Syntax, TooDeep, BoundTooLarge, IsTooLarge, IsRefusedAt, IsRefused}
 use Rattle.qtl_syntax.specs.Machine.{OfNumber}
@@ -114,7 +113,7 @@ one_fault text fault.NoMemory other p q x y = absurd (p refl)
 one_fault text one fault.NoMemory p q x y = absurd (q refl)
 
 -- the first tokens of a specification begin one
-begins : (h n : ℕ) (ts : List Token) (items : List Item) → Spells h ts items → BeginsWithin h (take n ts)
+pub begins : (h n : ℕ) (ts : List Token) (items : List Item) → Spells h ts items → BeginsWithin h (take n ts)
 begins h n ts items s = (drop n ts, items, subst (λ v. Spells h v items) (sym (take-append-drop n ts)) s)
 
 abbrev Clear : List Token → Type 0

@@ -1,5 +1,5 @@
 -- What a whole text spells within the limits, and why it is refused.
-use Rattle.std.specs.Prelude.{◌≡◌, ◌≢◌, ℕ, List}
+use Rattle.std.specs.Prelude.{◌≡◌, ◌≢◌, ◌⊎◌, ℕ, List}
 use Rattle.qtl_syntax.specs.declared.token.Token.{Token}
 use Rattle.qtl_syntax.specs.declared.scan.TokenEnd.{TokenEnd}
 use Rattle.qtl_syntax.specs.declared.scan.TokenEnd.TheVariants as token_end
@@ -59,3 +59,7 @@ fault_of_items (read_end.Syntax at) = fault.Syntax at
 fault_of_items (read_end.TooDeep at) = fault.TooDeep at
 fault_of_items (read_end.BoundTooLarge at) = fault.BoundTooLarge at
 fault_of_items read_end.NoMemory = fault.NoMemory
+
+-- the text is read back as these items, or it is too deep
+abbrev pub ReadsBack : List ℕ → List Item → Type 0
+ReadsBack text items = SpellsWithin text items ⊎ ((at : ℕ) × IsRefusedText text TooDeep at)

@@ -1,4 +1,5 @@
 pub mod Answer
+pub mod Canonical
 pub mod Cuts
 pub mod Faults
 pub mod FirstForms
@@ -13,5 +14,6 @@ pub mod Places
 pub mod Reading
 pub mod Scan
 pub mod Shape
+pub mod Signs
 pub mod Stops
 pub mod Tree

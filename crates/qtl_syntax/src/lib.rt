@@ -18,6 +18,7 @@ mod state;
 mod step;
 mod text;
 mod token;
+mod writer;
 
 pub use fault::{SpecFault, parse};
 pub use first::is_first_spec;
@@ -28,6 +29,7 @@ pub use scan::{TokenEnd, tokens};
 pub use spec::Spec;
 pub use text::Text;
 pub use token::{Sign, Token, Word};
+pub use writer::print;
 
 #[cfg(test)]
 mod tests;

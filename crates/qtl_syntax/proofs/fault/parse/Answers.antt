@@ -2,7 +2,7 @@ use Rattle.std.proofs.Common.{[]}
 use Rattle.std.specs.Prelude.{map}
 use Rattle.qtl_syntax.specs.Tree.{item_of}
 use Rattle.qtl_syntax.specs.Grammar.{Spells}
-use Rattle.qtl_syntax.specs.Places.{Refusal, BoundTooLarge, IsRefusedAt}
+use Rattle.qtl_syntax.specs.Places.{BoundTooLarge}
 use Rattle.qtl_syntax.proofs.FaultLaw.{spelled_once, clear_text}
 use Rattle.qtl_syntax.proofs.LawfulTree.{NoneTooLarge, good, lawful_items}
 use Rattle.qtl_syntax.proofs.fault.parse.Goals as goal
