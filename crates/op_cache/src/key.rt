@@ -1,0 +1,61 @@
+//! The keys of results: an operation and its operands, by handles and by numbers.
+
+ghost use Rattle.std.specs.Prelude.{◌≡◌, ◌<◌, ◌^◌};
+ghost use Rattle.op_cache.specs.Keys.{place_of, same_place};
+ghost use Rattle.op_cache.specs.Chains.{hash_of, bucket_of};
+
+use mon_base::Numbered;
+
+/// An operation, by a number that its caller gives it, and its two operands.
+#[derive(Clone, Copy, Debug, PartialEq, Eq)]
+pub struct Key<H> {
+    pub op: u8,
+    pub left: H,
+    pub right: H,
+}
+
+/// A key by the numbers of its operands. Two keys have one place exactly where they are equal.
+#[derive(Clone, Copy, Debug, PartialEq, Eq)]
+pub struct Place {
+    pub op: u8,
+    pub left: u32,
+    pub right: u32,
+}
+
+impl Place {
+    pub fn of<H: Copy + Numbered>(key: Key<H>) -> Place
+        ensures { result ≡ place_of H.number key }
+    {
+        Place {
+            op: key.op,
+            left: key.left.number(),
+            right: key.right.number(),
+        }
+    }
+
+    /// Whether both are one place.
+    pub fn is(self, other: Place) -> bool
+        ensures { result ≡ same_place self other }
+    {
+        self.op == other.op && self.left == other.left && self.right == other.right
+    }
+
+    /// Spreads places over 32 bits, each bit of the numbers reaching the low bits of the answer.
+    pub fn hash(self) -> u32
+        ensures { result ≡ hash_of self }
+    {
+        let mixed = (self.left as u64).wrapping_mul(0x9E37_79B9_7F4A_7C15)
+            ^ (self.right as u64).wrapping_mul(0xC2B2_AE3D_27D4_EB4F)
+            ^ (self.op as u64).wrapping_mul(0x1656_67B1_9E37_79F9);
+        (mixed >> 32) as u32
+    }
+
+    /// The bucket of a place, of so many.
+    pub fn bucket(self, window: usize) -> usize
+        requires { 0 < window }
+        ensures bucket { result ≡ bucket_of window self }
+        ensures within { result < window }
+    {
+        self.hash() as usize & (window - 1)
+    }
+}
