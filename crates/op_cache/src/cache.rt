@@ -1,6 +1,7 @@
 //! The memo: what was stored since the last `begin`.
 
 ghost use Rattle.std.specs.Prelude.{◌≡◌, ◌≤◌, ◌+◌, ◌↔◌, [], length, true, false, None, IfOk};
+ghost use Rattle.op_cache.specs.declared.key.Key.{Key};
 ghost use Rattle.op_cache.specs.Keys.{place_of};
 ghost use Rattle.op_cache.specs.Memo.{Memo, result_at, IsMemo, Adds};
 
@@ -74,9 +75,10 @@ impl<H: Copy + Numbered> OpCache<H> {
         self.window = self.window.min(START);
     }
 
-    /// What was stored for the key since the last `begin`.
+    /// What was stored for the key since the last `begin`. No other key has the key's place.
     pub fn find(&self, key: Key<H>) -> Option<H>
-        ensures { result ≡ result_at self.now.pairs (place_of H.number key) }
+        ensures found { result ≡ result_at self.now.pairs (place_of H.number key) }
+        ensures own { (other : Key H) → place_of H.number other ≡ place_of H.number key → other ≡ key }
     {
         let held = self.held as usize;
         find(

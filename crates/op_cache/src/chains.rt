@@ -11,7 +11,7 @@ use crate::Place;
 use crate::heads::{Head, first_link};
 
 /// A pair, and one more than the index of the last entry before it in its bucket, or 0.
-#[derive(Clone, Copy, Debug)]
+#[derive(Clone, Copy)]
 pub struct Entry<H> {
     pub place: Place,
     pub result: H,

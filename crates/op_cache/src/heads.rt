@@ -5,7 +5,7 @@ ghost use Rattle.std.specs.List.{All};
 ghost use Rattle.op_cache.specs.Chains.{first_link};
 
 /// The head of a bucket's chain: a link, which is meant only in its round.
-#[derive(Clone, Copy, Debug)]
+#[derive(Clone, Copy)]
 pub struct Head {
     pub round: u32,
     pub link: u32,

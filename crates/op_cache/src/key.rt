@@ -14,7 +14,7 @@ pub struct Key<H> {
     pub right: H,
 }
 
-/// A key by the numbers of its operands. Two keys have one place exactly where they are equal.
+/// A key by the numbers of its operands: where its result stands. Two keys that have one place are equal.
 #[derive(Clone, Copy, Debug, PartialEq, Eq)]
 pub struct Place {
     pub op: u8,
