@@ -1,14 +1,14 @@
 -- How a memo finds its pairs: each entry has a link to the last one before it in its bucket, and each bucket has a head.
 use Rattle.std.specs.Prelude.{◌≡◌, ◌≢◌, ℕ, suc, ◌-◌, ◌*◌, ◌/◌, ◌%◌, ◌^◌, ◌<◌, ◌≤◌, List, length, map, nat_eq, if◌then◌else◌, Some, slice_get, slice_index_or, bit_and, bit_xor, false}
+use Rattle.op_cache.specs.declared.key.TheConstants.{LEFT, RIGHT, OPERATION}
 use Rattle.op_cache.specs.declared.key.Place.{Place}
 use Rattle.op_cache.specs.Keys.{same_place}
 use Rattle.op_cache.specs.declared.heads.Head.{Head}
 use Rattle.op_cache.specs.declared.chains.Entry.{Entry}
 
--- the hash of a place: the products of its numbers with odd constants, modulo 2^64, and of their sum without carries the upper half
+-- the hash of a place: the products of its numbers with odd constants modulo 2^64, their bits added without carries, and of that the upper half
 unfoldable pub hash_of : Place → ℕ
-hash_of p =
-    bit_xor (bit_xor ((p.left * 0x9E37_79B9_7F4A_7C15) % 2 ^ 64) ((p.right * 0xC2B2_AE3D_27D4_EB4F) % 2 ^ 64)) ((p.op * 0x1656_67B1_9E37_79F9) % 2 ^ 64) / 2 ^ 32
+hash_of p = bit_xor (bit_xor (p.left * LEFT % 2 ^ 64) (p.right * RIGHT % 2 ^ 64)) (p.op * OPERATION % 2 ^ 64) / 2 ^ 32
 
 -- the bucket of a place, of so many
 abbrev pub bucket_of : ℕ → Place → ℕ

@@ -6,6 +6,13 @@ ghost use Rattle.op_cache.specs.Chains.{hash_of, bucket_of};
 
 use mon_base::Numbered;
 
+// Odd multipliers, chosen by trial: numbers in a row spread evenly over each power of two of buckets.
+const LEFT: u64 = 0x24FB_4733_7513_F78F;
+
+const RIGHT: u64 = 0x66DB_8E39_ACCF_04C9;
+
+const OPERATION: u64 = 0xB743_88F9_644C_E04F;
+
 /// An operation, by a number that its caller gives it, and its two operands.
 #[derive(Clone, Copy, Debug, PartialEq, Eq)]
 pub struct Key<H> {
@@ -40,13 +47,13 @@ impl Place {
         self.op == other.op && self.left == other.left && self.right == other.right
     }
 
-    /// Spreads places over 32 bits, each bit of the numbers reaching the low bits of the answer.
+    /// Spreads places over 32 bits, of which the low ones serve as buckets.
     pub fn hash(self) -> u32
         ensures { result ≡ hash_of self }
     {
-        let mixed = (self.left as u64).wrapping_mul(0x9E37_79B9_7F4A_7C15)
-            ^ (self.right as u64).wrapping_mul(0xC2B2_AE3D_27D4_EB4F)
-            ^ (self.op as u64).wrapping_mul(0x1656_67B1_9E37_79F9);
+        let mixed = (self.left as u64).wrapping_mul(LEFT)
+            ^ (self.right as u64).wrapping_mul(RIGHT)
+            ^ (self.op as u64).wrapping_mul(OPERATION);
         (mixed >> 32) as u32
     }
 

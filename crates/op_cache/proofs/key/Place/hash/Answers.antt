@@ -1,5 +1,6 @@
 use Rattle.std.proofs.Common.{ℕ, ◌*◌, ◌%◌, ◌^◌, ◌<◌, ◌/◌, refl, arith, bit_xor}
 use Rattle.std.proofs.lemmas.Nat.{xor_lt}
+use Rattle.op_cache.specs.declared.key.TheConstants.{LEFT, RIGHT, OPERATION}
 use Rattle.op_cache.specs.Chains.{hash_of}
 use Rattle.op_cache.proofs.key.Place.hash.Goals as goal
 
@@ -9,7 +10,7 @@ mixed a b c p q r = let x = xor_lt 64 (bit_xor a b) c (xor_lt 64 a b p q) r in o
 pub overflow_cast-result : goal.overflow_cast-result
 overflow_cast-result c =
     let s = c.args.self in
-    let h = mixed (s.left * 0x9E37_79B9_7F4A_7C15 % 2 ^ 64) (s.right * 0xC2B2_AE3D_27D4_EB4F % 2 ^ 64) (s.op * 0x1656_67B1_9E37_79F9 % 2 ^ 64) (omega arith) (omega arith) (omega arith) in
+    let h = mixed (s.left * LEFT % 2 ^ 64) (s.right * RIGHT % 2 ^ 64) (s.op * OPERATION % 2 ^ 64) (omega arith) (omega arith) (omega arith) in
     omega arith
 
 pub returns : goal.returns
