@@ -26,7 +26,7 @@ module _ {H : Type 0} where
       sym (length-map new (λ (x : Entry H). (x.place, x.result))) ∙ (ap length e ∙ length-map old (λ (x : Entry H). (x.place, x.result)))
 
   -- the first pairs are as before where all are
-  front_same : (held : ℕ) (new old : List (Entry H)) → pairs_of new ≡ pairs_of old → pairs_of (take held new) ≡ pairs_of (take held old)
+  pub front_same : (held : ℕ) (new old : List (Entry H)) → pairs_of new ≡ pairs_of old → pairs_of (take held new) ≡ pairs_of (take held old)
   front_same held new old e =
       sym (take-map (λ (x : Entry H). (x.place, x.result)) held new) ∙ (ap (take held) e ∙ take-map (λ (x : Entry H). (x.place, x.result)) held old)
 
@@ -60,9 +60,6 @@ module _ {H : Type 0} where
     distinct = subst (λ ps. IsDistinct same_place (keys_of ps)) (sym (front_same held new pairs same)) k.distinct;
     linked = linked;
   }
-
-  pub view_relinked : (held : ℕ) (new pairs : List (Entry H)) → pairs_of new ≡ pairs_of pairs → pairs_of (take held new) ≡ pairs_of (take held pairs)
-  view_relinked held new pairs same = front_same held new pairs same
 
   module _ (entries held room : ℕ) (pairs : List (Entry H)) (heads : List Head) (w r : ℕ) (k : IsKept entries held room pairs heads w r) (e : Entry H)
       (put new : List (Entry H)) (places : put ≡ take held pairs ++ e ∷ drop (held + 1) pairs) (same : pairs_of new ≡ pairs_of put) where

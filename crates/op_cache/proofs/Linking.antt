@@ -100,9 +100,6 @@ module _ {H : Type 0} where
 
   module _ (es : List (Entry H)) (heads : List Head) (w r : ℕ) (linked : AreLinked es heads w r) (e : Entry H) (n b : ℕ)
       (many : n ≡ length es) (in_b : bucket_of w e.place ≡ b) (inside : b < length heads) (lead : e.link ≡ first_link heads r b) where
-    new_heads : List Head
-    new_heads = set heads b (record { round = r; link = n + 1 })
-
     same_count : length (places es) ≡ length es
     same_count = length-map es (λ (x : Entry H). x.place)
 

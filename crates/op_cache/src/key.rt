@@ -30,7 +30,7 @@ pub struct Place {
 }
 
 impl Place {
-    pub fn of<H: Copy + Numbered>(key: Key<H>) -> Place
+    pub(crate) fn of<H: Copy + Numbered>(key: Key<H>) -> Place
         ensures { result ≡ place_of H.number key }
     {
         Place {
@@ -41,14 +41,14 @@ impl Place {
     }
 
     /// Whether both are one place.
-    pub fn is(self, other: Place) -> bool
+    pub(crate) fn is(self, other: Place) -> bool
         ensures { result ≡ same_place self other }
     {
         self.op == other.op && self.left == other.left && self.right == other.right
     }
 
     /// Spreads places over 32 bits, of which the low ones serve as buckets.
-    pub fn hash(self) -> u32
+    pub(crate) fn hash(self) -> u32
         ensures { result ≡ hash_of self }
     {
         let mixed = (self.left as u64).wrapping_mul(LEFT)
@@ -58,7 +58,7 @@ impl Place {
     }
 
     /// The bucket of a place, of so many.
-    pub fn bucket(self, window: usize) -> usize
+    pub(crate) fn bucket(self, window: usize) -> usize
         requires { 0 < window }
         ensures bucket { result ≡ bucket_of window self }
         ensures within { result < window }

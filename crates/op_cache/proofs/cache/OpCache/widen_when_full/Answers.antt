@@ -5,7 +5,7 @@ use Rattle.op_cache.specs.declared.heads.Head.{Head}
 use Rattle.op_cache.specs.declared.chains.Entry.{Entry}
 use Rattle.op_cache.specs.Chains.{pairs_of}
 use Rattle.op_cache.specs.Kept.{IsKept}
-use Rattle.op_cache.proofs.Keeping.{kept_relinked, view_relinked, lent_back}
+use Rattle.op_cache.proofs.Keeping.{kept_relinked, front_same, lent_back}
 use Rattle.op_cache.proofs.cache.OpCache.widen_when_full.Goals as goal
 
 pub invariant_of-self : goal.invariant_of-self
@@ -31,4 +31,4 @@ returns g c =
     let new = c.relink.new.entries in
     let same : pairs_of new ≡ pairs_of s.pairs.items = c.relink.ensures.pairs ∙ ap pairs_of c.deref_mut-2.ensures.value in
     let all_pairs = lent_back new s.pairs.items s.pairs.len (omega arith) in
-    ap (λ (ps : List (Place × g.row.H.Denot)). record { entries = s.entries; pairs = ps }) (ap (λ (es : List (Entry g.row.H.Denot)). pairs_of (take s.held es)) all_pairs ∙ view_relinked s.held new s.pairs.items same) ∙ c.self.view_is
+    ap (λ (ps : List (Place × g.row.H.Denot)). record { entries = s.entries; pairs = ps }) (ap (λ (es : List (Entry g.row.H.Denot)). pairs_of (take s.held es)) all_pairs ∙ front_same s.held new s.pairs.items same) ∙ c.self.view_is
