@@ -1,0 +1,4 @@
+pub mod Keys
+pub mod Memo
+pub mod Chains
+pub mod Kept
