@@ -1,0 +1,5 @@
+pub mod Unfolds
+pub mod Putting
+pub mod Numbers
+pub mod Sharing
+pub mod Making

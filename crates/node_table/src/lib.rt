@@ -1,0 +1,5 @@
+//! A table of shared nodes.
+
+#![tactic(auto)]
+
+pub fn stub() {}
