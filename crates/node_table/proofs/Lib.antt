@@ -3,3 +3,5 @@ pub mod Putting
 pub mod Numbers
 pub mod Sharing
 pub mod Making
+pub mod Chaining
+pub mod Writing

@@ -5,7 +5,7 @@ use Rattle.std.specs.Set.{is_member}
 use Rattle.std.proofs.lemmas.Bool.Decides.{Decides-eqb}
 use Rattle.node_tree.specs.Tree.{Tree, Branch, tree_eq, join, top}
 use Rattle.node_tree.proofs.Joins.{join-apart, join-same}
-use Rattle.node_table.specs.Node.{Node}
+use Rattle.node_table.specs.declared.node.Node.{Node}
 use Rattle.node_table.specs.Table.{Table, node_at, tree_of, IsValid, held, live_of, need, KeepsTrees, HoldsAlso, IsTable, IsShared}
 use Rattle.node_table.proofs.Unfolds.{tree_at-node, tree_at-one_number}
 use Rattle.node_table.proofs.Numbers.{all_taken}

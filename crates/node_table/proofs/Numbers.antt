@@ -8,7 +8,7 @@ use Rattle.std.proofs.lemmas.Bool.Decides.{Decides-eqb}
 use Rattle.std.proofs.Math.Bool.{or-true}
 use Rattle.node_tree.specs.Tree.{Tree, tree_eq}
 use Rattle.node_tree.proofs.Same.{tree_eq-refl, same_tree}
-use Rattle.node_table.specs.Node.{Node}
+use Rattle.node_table.specs.declared.node.Node.{Node}
 use Rattle.node_table.specs.Table.{numbers_below}
 
 abbrev pub In : List Tree → Tree → Type 0

@@ -4,7 +4,7 @@ use Rattle.std.specs.Prelude.{Bool, true, false, cond, ◌==◌, Option, Some, N
 use Rattle.std.specs.Option.{is_some}
 use Rattle.std.proofs.Common.{⊎_elim}
 use Rattle.std.proofs.lemmas.Bool.Decides.{Decides-eqb}
-use Rattle.node_table.specs.Node.{Node}
+use Rattle.node_table.specs.declared.node.Node.{Node}
 use Rattle.node_table.specs.Unfold.{is_valid, level_of, level_at, IsWell}
 use Rattle.node_table.proofs.Unfolds.{valid-grown}
 

@@ -17,7 +17,7 @@ use Rattle.node_tree.proofs.Same.{tree_eq-refl, same_tree}
 use Rattle.node_tree.proofs.Counting.{tree_eq_laws}
 use Rattle.node_tree.proofs.Joins.{join-apart, join-same}
 use Rattle.node_tree.proofs.Setting.{weaken}
-use Rattle.node_table.specs.Node.{Node}
+use Rattle.node_table.specs.declared.node.Node.{Node}
 use Rattle.node_table.specs.Unfold.{tree_in, tree_at, node_tree, is_valid, level_of, level_at, IsWell, all_levels, all_levels-big}
 use Rattle.node_table.specs.Table.{Table, node_at, tree_of, IsValid, numbers, held, live_of, need, KeepsTrees, HoldsAlso, IsTable, IsShared}
 use Rattle.node_table.proofs.Unfolds.{enough, level_at-le, tree_at-zero, tree_at-one, tree_at-one_number, tree_at-canonical, tree_at-node, grown, valid-grown}

@@ -1,3 +1,5 @@
-pub mod Node
 pub mod Unfold
 pub mod Table
+pub mod Hash
+pub mod Chains
+pub mod Arrays

@@ -2,7 +2,7 @@
 use Rattle.std.specs.Prelude.{◌≡◌, ℕ, zero, suc, ◌+◌, ◌<◌, ◌≤◌, ◌∷◌, ◌++◌, ◌||◌, Bool, true, false, List, [], Option, Some, None, is_some, if◌then◌else◌, map, length, slice_index_or}
 use Rattle.std.specs.Set.{is_member, distinct_count}
 use Rattle.node_tree.specs.Tree.{Tree, Zero, One, tree_eq, branches, IsOrdered, IsReduced}
-use Rattle.node_table.specs.Node.{Node}
+use Rattle.node_table.specs.declared.node.Node.{Node}
 use Rattle.node_table.specs.Unfold.{tree_at, is_valid, IsWell}
 
 -- how many nodes fit, the node of each number that has one, and whether a number is marked

@@ -2,7 +2,7 @@
 use Rattle.std.proofs.Common.{lit<}
 use Rattle.std.specs.Prelude.{◌≡◌, ◌≢◌, ℕ, zero, suc, ◌<◌, Bool, true, false, Option, Some, None}
 use Rattle.std.specs.Option.{is_some}
-use Rattle.node_table.specs.Node.{Node}
+use Rattle.node_table.specs.declared.node.Node.{Node}
 use Rattle.node_tree.specs.Tree.{Tree, Zero, One, Branch}
 
 abbrev pub node_tree : Option Node → (ℕ → Tree) → Tree

@@ -2,4 +2,5 @@
 
 #![tactic(auto)]
 
-pub fn stub() {}
+mod arrays;
+mod node;
