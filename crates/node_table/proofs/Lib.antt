@@ -5,3 +5,4 @@ pub mod Sharing
 pub mod Making
 pub mod Chaining
 pub mod Writing
+pub mod Keeping

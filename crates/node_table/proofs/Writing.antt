@@ -1,9 +1,11 @@
 -- Slots that are written.
-use Rattle.std.proofs.Common.{◌≡◌, ◌≢◌, ℕ, ◌+◌, ◌<◌, ◌≤◌, List, length, set, refl, ap, sym, ◌∙◌, arith, subst, ⊎_elim, get_or-set_other, get_or-set_same, length-set}
-use Rattle.std.specs.Prelude.{Bool, true, false, cond, ◌==◌, nat_eq, Option, Some, None}
+use Rattle.std.proofs.Common.{◌≡◌, ◌≢◌, ℕ, ◌+◌, ◌<◌, ◌≤◌, List, [], ◌∷◌, ◌++◌, length, length-append, set, refl, ap, sym, ◌∙◌, arith, subst, ⊎_elim, get_or-set_other, get_or-set_same, length-set}
+use Rattle.std.specs.Prelude.{Bool, true, false, cond, ◌==◌, nat_eq, Option, Some, None, slice_index_or}
 use Rattle.std.proofs.lemmas.Bool.{cases_eq, cases_lt}
 use Rattle.std.proofs.lemmas.Bool.Decides.{Decides-eqb}
-use Rattle.std.proofs.lemmas.List.{get_or_past}
+use Rattle.std.proofs.lemmas.List.{get_or_past, get_or_default}
+use Rattle.std.proofs.Math.ListN.{get_or-append}
+use Rattle.std.proofs.Math.Seq.{get_or-append_seam}
 use Rattle.node_table.specs.declared.node.Node.{Node}
 use Rattle.node_table.specs.declared.arrays.Slot.{Slot}
 use Rattle.node_table.specs.Hash.{bucket_of}
@@ -73,3 +75,47 @@ module _ (slots : List Slot) (heads : List ℕ) (bucket number : ℕ) (n : Node)
       (ap (λ (s : Slot). s.chain) (get_or-set_other mid p number (record { node = (slot_at mid p).node; chain = number }) empty_slot number_not_p) ∙ written_own slots number n (chain_in slots p) apart fits)
       (ap (λ (s : Slot). s.chain) (get_or-set_same mid p (record { node = (slot_at mid p).node; chain = number }) empty_slot p_in))
       (λ h a b. ap (λ (s : Slot). s.chain) (get_or-set_other mid p h (record { node = (slot_at mid p).node; chain = number }) empty_slot b) ∙ written_other slots number n (chain_in slots p) apart fits h a))
+
+-- a slot behind the others
+module _ (slots : List Slot) (n : Node) (chain : ℕ) (apart : n.low ≢ n.high) where
+  pub appended : (h : ℕ) → node_in (slots ++ record { node = n; chain = chain } ∷ []) h ≡ cond (h == length slots) (Some n) (node_in slots h)
+  appended h = ⊎_elim
+      (λ (q : h < length slots).
+      let e : (h == length slots) ≡ false = (let a : h ≢ length slots = λ i. omega (arith, i, q) in unequal h (length slots) a) in
+      ap node_of (get_or-append slots (record { node = n; chain = chain } ∷ []) empty_slot h q) ∙ sym (ap (λ b. cond b (Some n) (node_in slots h)) e))
+      (λ (q : length slots ≤ h). ⊎_elim
+      (λ (i : h ≡ length slots).
+      ap (λ k. node_in (slots ++ record { node = n; chain = chain } ∷ []) k) i ∙ ap node_of (get_or-append_seam slots (record { node = n; chain = chain }) [] empty_slot) ∙ node_of-node n chain apart
+      ∙ sym (ap (λ b. cond b (Some n) (node_in slots h)) ((Decides-eqb h (length slots)).1 i)))
+      (λ (i : h ≢ length slots).
+      let long : length (slots ++ record { node = n; chain = chain } ∷ []) ≤ h = omega (arith, q, i, length-append slots (record { node = n; chain = chain } ∷ [])) in
+      ap node_of (get_or_past (slots ++ record { node = n; chain = chain } ∷ []) h empty_slot long) ∙ sym (ap node_of (get_or_past slots h empty_slot q)) ∙ sym (ap (λ b. cond b (Some n) (node_in slots h)) (unequal h (length slots) i)))
+      (cases_eq h (length slots)))
+      (cases_lt h (length slots))
+    where
+      unequal : (a b : ℕ) → a ≢ b → (a == b) ≡ false
+      unequal a b e = elim (a == b) as (λ x. (a == b) ≡ x → x ≡ false) [ true ↦ λ i. absurd (e ((Decides-eqb a b).0 i)) | false ↦ λ i. refl ] refl
+
+  pub appended_own : chain_in (slots ++ record { node = n; chain = chain } ∷ []) (length slots) ≡ chain
+  appended_own = ap (λ (s : Slot). s.chain) (get_or-append_seam slots (record { node = n; chain = chain }) [] empty_slot)
+
+  pub appended_other : (h : ℕ) → h ≢ length slots → chain_in (slots ++ record { node = n; chain = chain } ∷ []) h ≡ chain_in slots h
+  appended_other h a = ⊎_elim
+      (λ (q : h < length slots). ap (λ (s : Slot). s.chain) (get_or-append slots (record { node = n; chain = chain } ∷ []) empty_slot h q))
+      (λ (q : length slots ≤ h).
+      let long : length (slots ++ record { node = n; chain = chain } ∷ []) ≤ h = omega (arith, q, a, length-append slots (record { node = n; chain = chain } ∷ [])) in
+      ap (λ (s : Slot). s.chain) (get_or_past (slots ++ record { node = n; chain = chain } ∷ []) h empty_slot long) ∙ sym (ap (λ (s : Slot). s.chain) (get_or_past slots h empty_slot q)))
+      (cases_lt h (length slots))
+
+  module _ (heads : List ℕ) (bucket : ℕ) (c : IsChained (node_in slots) (chain_in slots) heads (length slots)) (belongs : bucket ≡ bucket_of (length heads) n) (within : bucket < length heads) (two : 2 ≤ length slots) (first : chain ≡ head_in heads bucket) where
+    pub linked_last : let new : List Slot = slots ++ record { node = n; chain = chain } ∷ [] in IsChained (node_in new) (chain_in new) (set heads bucket (length slots)) (length new)
+    linked_last =
+        let new : List Slot = slots ++ record { node = n; chain = chain } ∷ [] in
+        let long : length new ≡ length slots + 1 = length-append slots (record { node = n; chain = chain } ∷ []) in
+        chained_head (node_in slots) (chain_in slots) heads (length slots) c (node_within slots) (node_in new) (chain_in new) (length slots) bucket n
+        (ap node_of (get_or_past slots (length slots) empty_slot (omega arith))) two appended belongs within
+        (set heads bucket (length slots)) (length new) refl (c.head bucket within).below (omega (arith, long)) (omega (arith, long)) (appended_own ∙ first) appended_other
+
+-- a slot that was read
+pub slot_read : (slots : List Slot) (k : ℕ) (s : Slot) → k < length slots → s ≡ slice_index_or slots k s → s ≡ slot_at slots k
+slot_read slots k s l e = e ∙ get_or_default slots k s empty_slot l

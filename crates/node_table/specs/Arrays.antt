@@ -1,5 +1,5 @@
 -- How a table's arrays hold its nodes.
-use Rattle.std.specs.Prelude.{◌≡◌, ℕ, ◌+◌, ◌<◌, ◌≤◌, List, map, length, Bool, Option, Some, None, nat_eq, if◌then◌else◌, slice_index_or}
+use Rattle.std.specs.Prelude.{◌≡◌, ℕ, ◌+◌, ◌<◌, ◌≤◌, List, map, length, Bool, Option, Some, None, nat_eq, ◌==◌, if◌then◌else◌, slice_index_or}
 use Rattle.node_table.specs.declared.arrays.Slot.{Slot}
 use Rattle.node_table.specs.declared.node.Node.{Node}
 use Rattle.node_table.specs.Unfold.{IsWell}
@@ -28,8 +28,8 @@ chain_in slots h = (slot_at slots h).chain
 abbrev pub table_of : ℕ → List Slot → List ℕ → ℕ → Table
 table_of room slots marks round = record { room = room; nodes = map node_of slots; marks = map (λ m. nat_eq m round) marks }
 
--- the arrays of a table
-pub record IsKept (room : ℕ) (slots : List Slot) (heads marks : List ℕ) (first_free round live : ℕ) : Type 0 where
+-- slots in their buckets and in the chain of the free ones
+pub record IsLinked (room : ℕ) (slots : List Slot) (heads : List ℕ) (first_free : ℕ) : Type 0 where
   pub bound : room ≤ 4194304
   pub leaves : 2 ≤ length slots
   pub few : length slots ≤ room + 2
@@ -37,7 +37,18 @@ pub record IsKept (room : ℕ) (slots : List Slot) (heads marks : List ℕ) (fir
   pub buckets : 0 < length heads
   pub chained : IsChained (node_in slots) (chain_in slots) heads (length slots)
   pub free : IsFree (node_in slots) (chain_in slots) first_free (length slots)
+
+-- the arrays of a table
+pub record IsKept (room : ℕ) (slots : List Slot) (heads marks : List ℕ) (first_free round live : ℕ) : Type 0 where
+  pub linked : IsLinked room slots heads first_free
   pub marked : length marks ≡ length slots
   pub rounds : (h : ℕ) → slice_index_or marks h 0 ≤ round
   pub started : 0 < round
   pub count : live ≡ length (numbers_below (node_in slots) (length slots))
+
+-- a number that had no node has got one
+pub record PutsNode (old new : List Slot) (node : Node) (number : ℕ) : Type 0 where
+  pub free : node_in old number ≡ None
+  pub two : 2 ≤ number
+  pub inside : number < length new
+  pub put : (h : ℕ) → node_in new h ≡ (if h == number then Some node else node_in old h)

@@ -3,3 +3,4 @@ pub mod Table
 pub mod Hash
 pub mod Chains
 pub mod Arrays
+pub mod Tells

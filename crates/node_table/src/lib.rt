@@ -1,6 +1,11 @@
-//! A table of shared nodes.
+//! A table of shared nodes in fixed arrays: for each tree one handle, exact refusals, collection, and marks.
 
 #![tactic(auto)]
 
 mod arrays;
+mod handle;
 mod node;
+mod table;
+
+pub use handle::{Block, Branch, Handle};
+pub use table::{Full, NodeTable};
