@@ -6,3 +6,4 @@ pub mod Making
 pub mod Chaining
 pub mod Writing
 pub mod Keeping
+pub mod Standing

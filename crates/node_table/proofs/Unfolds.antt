@@ -133,3 +133,10 @@ tree_at-one_number f w h k v u e = one_number f w all_levels h k v u (omega (ari
 
 pub tree_at-canonical : (f : ℕ → Option Node) → IsWell f → (h : ℕ) → is_valid f h ≡ true → (top (tree_at f h) ≡ level_at f h) × IsOrderedFrom (level_at f h) (tree_at f h) × IsReduced (tree_at f h)
 tree_at-canonical f w h v = canonical_in f w all_levels h v (omega (arith, all_levels-big))
+
+-- a valid number from 2 on has a node
+pub found_from_valid : (f : ℕ → Option Node) (h : ℕ) → 2 ≤ h → is_valid f h ≡ true → (s : Node) × (f h ≡ Some s)
+found_from_valid f zero l v = absurd (omega (arith, l))
+found_from_valid f (suc zero) l v = absurd (omega (arith, l))
+found_from_valid f (suc (suc k)) l v =
+    elim (f (suc (suc k))) as (λ o. is_some o ≡ true → (s : Node) × (o ≡ Some s)) [ None ↦ λ v. cc | Some s ↦ λ v. (s, refl) ] v
