@@ -7,3 +7,4 @@ pub mod Chaining
 pub mod Writing
 pub mod Keeping
 pub mod Standing
+pub mod Rounds

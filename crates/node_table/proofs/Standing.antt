@@ -1,7 +1,8 @@
 -- What the arrays stand for is a table.
-use Rattle.std.proofs.Common.{◌≡◌, ◌≢◌, ℕ, ◌+◌, ◌<◌, ◌≤◌, List, length, refl, ap, sym, ◌∙◌, arith, subst}
+use Rattle.std.proofs.Common.{◌≡◌, ◌≢◌, ℕ, zero, suc, ◌+◌, ◌<◌, ◌≤◌, List, [], ◌∷◌, length, refl, ap, sym, ◌∙◌, arith, subst, ⊎_elim}
 use Rattle.std.specs.Prelude.{true, false, cond, ◌==◌, Option, Some, None, map, nat_eq, slice_index_or}
 use Rattle.std.proofs.Math.Path.{fun_ext}
+use Rattle.std.proofs.lemmas.Bool.{cases_lt}
 use Rattle.std.proofs.Math.ListN.{get_or-map}
 use Rattle.std.proofs.lemmas.List.{length-map, get_or_past}
 use Rattle.node_tree.specs.Tree.{Tree, Branch, join, top}
@@ -86,3 +87,41 @@ module _ (room : ℕ) (slots : List Slot) (heads marks : List ℕ) (first round 
       let s = seen room slots marks round in
       subst (λ (f : ℕ → Option Node). (tree_at f h ≡ Branch n.level (tree_at f n.low) (tree_at f n.high)) × (is_valid f n.low ≡ true) × (is_valid f n.high ≡ true)) (sym s)
       (tree_at-node (node_in slots) l.well h n e, (l.well.low h n e).0, (l.well.high h n e).0)
+
+  -- a valid handle has a slot, a leaf too
+  pub valid_fits : (h : ℕ) → IsValid (table_of room slots marks round) h → h < length slots
+  valid_fits h v =
+      ⊎_elim (λ (q : h < 2). omega (arith, q, l.leaves))
+      (λ (q : 2 ≤ h). (has_slot h v (λ e. omega (arith, e, q)) (λ e. omega (arith, e, q))).1)
+      (cases_lt h 2)
+
+-- the arrays of an empty table
+pub linked_empty : (room : ℕ) (heads : List ℕ) → 2 ≤ room → room ≤ 4194304 → 0 < length heads → ((b : ℕ) → slice_index_or heads b 0 ≡ 0) → IsLinked room (empty_slot ∷ (empty_slot ∷ [])) heads 0
+linked_empty room heads two bound some none_yet = record {
+  bound = bound;
+  leaves = omega arith;
+  few = omega arith;
+  well = record {
+    no_zero = refl;
+    no_one = refl;
+    low = λ h n e. absurd (none h n e);
+    high = λ h n e. absurd (none h n e);
+    apart = λ h n e. absurd (none h n e);
+    level = λ h n e. absurd (none h n e);
+    single = λ h k n e f. absurd (none h n e);
+  };
+  buckets = some;
+  chained = record {
+    head = λ b l. record { below = omega (arith, none_yet b); real = λ q. absurd (q (none_yet b)); greatest = λ k n e i m. absurd (none k n e) };
+    link = λ h n e. absurd (none h n e);
+  };
+  free = record {
+    start = record { real = λ q. absurd (q refl); least = λ k a b e. absurd (omega (arith, a, b)) };
+    link = λ h a b e. absurd (omega (arith, a, b));
+  };
+}
+  where
+    none : (h : ℕ) (n : Node) → node_in (empty_slot ∷ (empty_slot ∷ [])) h ≡ Some n → ⊥
+    none zero n e = cc
+    none (suc zero) n e = cc
+    none (suc (suc h)) n e = cc

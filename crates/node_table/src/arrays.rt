@@ -1,6 +1,6 @@
 //! The slots of a table in chains: finding a node, and putting one in.
 
-ghost use Rattle.std.specs.Prelude.{◌≡◌, ◌≢◌, ℕ, ◌+◌, ◌^◌, ◌<◌, ◌≤◌, [], ◌∷◌, ◌++◌, length, vec_len, vec_capacity, slice_index_or, true, IfOk, Some, None, IfSome, IfNone, ◌==◌, if◌then◌else◌};
+ghost use Rattle.std.specs.Prelude.{◌≡◌, ◌≢◌, ℕ, ◌+◌, ◌^◌, ◌<◌, ◌≤◌, [], ◌∷◌, ◌++◌, length, vec_len, vec_capacity, replicate, slice_index_or, true, IfOk, Some, None, IfSome, IfNone, ◌==◌, if◌then◌else◌};
 ghost use Rattle.node_table.specs.Hash.{bucket_of};
 ghost use Rattle.node_table.specs.Chains.{IsChained, IsPlace, head_in};
 ghost use Rattle.node_table.specs.Unfold.{is_valid, level_at};
@@ -116,6 +116,17 @@ pub fn open_slots(alloc: Global, nodes: u32) -> Result<(Vec<Slot>, Vec<u32>), No
     marks.push_reserved(0);
     marks.push_reserved(0);
     Ok((slots, marks))
+}
+
+/// The heads of empty buckets, a power of two of them and no fewer than the nodes.
+pub fn open_heads(alloc: Global, nodes: u32) -> Result<Vec<u32>, NoMemory>
+    requires some { 0 < nodes }
+    requires bound { nodes ≤ 4194304 }
+    ensures empty { IfOk result (λ v. v.items ≡ replicate (length v.items) 0) }
+    ensures enough { IfOk result (λ v. nodes ≤ length v.items) }
+{
+    let buckets = nodes.next_power_of_two();
+    vec![in alloc; 0u32; buckets as usize]
 }
 
 /// Puts a node into a new slot behind the others, unmarked, and the slot into its bucket.

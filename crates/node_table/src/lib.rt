@@ -4,6 +4,7 @@
 
 mod arrays;
 mod handle;
+mod marks;
 mod node;
 mod table;
 

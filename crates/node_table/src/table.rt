@@ -1,12 +1,13 @@
 //! The table: what it promises, and how a node is made.
 
-ghost use Rattle.std.specs.Prelude.{◌≡◌, ℕ, [], ◌+◌, ◌<◌, ◌≤◌, ◌↔◌, IfOk, OnOk, OnErr, IsErr};
+ghost use Rattle.std.specs.Prelude.{◌≡◌, ℕ, [], ◌+◌, ◌<◌, ◌≤◌, ◌↔◌, true, false, IfOk, OnOk, OnErr, IsErr, IsTrue, ◌==◌, if◌then◌else◌};
 ghost use Rattle.node_tree.specs.Tree.{Tree, Zero, One, join, top};
-ghost use Rattle.node_table.specs.Table.{Table, tree_of, IsValid, held, live_of, need, KeepsTrees, HoldsAlso, IsShared};
+ghost use Rattle.node_table.specs.Table.{Table, tree_of, IsValid, is_marked, held, live_of, need, KeepsTrees, HoldsAlso, IsShared};
 ghost use Rattle.node_table.specs.Tells.{TellsTree};
 
-use crate::arrays::{Slot, bucket_of, find, hold, open_slots};
+use crate::arrays::{Slot, bucket_of, find, hold, open_heads, open_slots};
 use crate::handle::{Branch, Handle};
+use crate::marks::new_round;
 use crate::node::Node;
 use mon_base::{NoMemory, Steps};
 use std::alloc::Global;
@@ -61,11 +62,10 @@ impl NodeTable {
         ensures shared { IfOk result IsShared }
     {
         let (slots, marks) = open_slots(alloc, nodes)?;
-        let buckets = nodes.next_power_of_two();
         Ok(NodeTable {
             room: nodes,
             slots,
-            heads: vec![in alloc; 0u32; buckets as usize]?,
+            heads: open_heads(alloc, nodes)?,
             marks,
             waiting: Vec::with_capacity(alloc, nodes as usize + 2)?,
             free: 0,
@@ -164,5 +164,29 @@ impl NodeTable {
         };
         self.live += 1;
         Ok(Handle { number })
+    }
+
+    /// Leaves no handle marked. It visits no node, but where the rounds are counted from 1 again.
+    pub fn unmark_all(&mut self)
+        ensures none { (h : ℕ) → is_marked self.new h ≡ false }
+        ensures room { self.new.room ≡ self.old.room }
+        ensures nodes { self.new.nodes ≡ self.old.nodes }
+    {
+        self.round = new_round(&mut self.marks, self.round);
+    }
+
+    /// Marks a handle, and says whether it wasn't marked before.
+    pub fn mark(&mut self, h: Handle) -> bool
+        requires { IsValid self.old h }
+        ensures first { IsTrue result ↔ (is_marked self.old h ≡ false) }
+        ensures marked { (k : ℕ) → is_marked self.new k ≡ (if k == h then true else is_marked self.old k) }
+        ensures room { self.new.room ≡ self.old.room }
+        ensures nodes { self.new.nodes ≡ self.old.nodes }
+    {
+        let round = self.round;
+        let mark = &mut self.marks[h.number as usize];
+        let first = *mark != round;
+        *mark = round;
+        first
     }
 }
