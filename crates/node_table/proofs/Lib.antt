@@ -8,3 +8,4 @@ pub mod Writing
 pub mod Keeping
 pub mod Standing
 pub mod Rounds
+pub mod Marking

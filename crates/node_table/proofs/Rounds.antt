@@ -8,7 +8,7 @@ use Rattle.node_table.specs.declared.arrays.Slot.{Slot}
 use Rattle.node_table.specs.Table.{is_marked}
 use Rattle.node_table.specs.Arrays.{table_of}
 
-unequal : (a b : ℕ) → a ≢ b → nat_eq a b ≡ false
+pub unequal : (a b : ℕ) → a ≢ b → nat_eq a b ≡ false
 unequal a b e = elim (nat_eq a b) as (λ x. nat_eq a b ≡ x → x ≡ false) [ true ↦ λ i. absurd (e ((Decides-eqb a b).0 i)) | false ↦ λ i. refl ] refl
 
 -- a number is marked where its mark is the round's

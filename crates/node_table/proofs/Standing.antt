@@ -15,7 +15,7 @@ use Rattle.node_table.proofs.Unfolds.{tree_at-canonical, tree_at-node}
 use Rattle.node_table.proofs.Numbers.{one_more, none_past}
 use Rattle.node_table.proofs.Making.{MakesNode, makes_put}
 use Rattle.node_table.proofs.Unfolds.{found_from_valid}
-use Rattle.node_table.proofs.Writing.{node_within}
+use Rattle.node_table.proofs.Writing.{node_within, own_node}
 
 -- what holds inside holds of what contracts see, and the other way round
 pub forth : (P : Table → ℕ → ℕ → Type 0) (s t : Table) (a low b high : ℕ) → s ≡ t → a ≡ low → b ≡ high → P s a b → P t low high
@@ -76,10 +76,7 @@ module _ (room : ℕ) (slots : List Slot) (heads marks : List ℕ) (first round 
   has_slot h v a b =
       let w : is_valid (node_in slots) h ≡ true = subst (λ f. is_valid f h ≡ true) (seen room slots marks round) v in
       let r = found_from_valid (node_in slots) h (omega (arith, a, b)) w in
-      (of_slot (slot_at slots h) r.0 r.1, node_within slots h r.0 r.1)
-    where
-      of_slot : (s : Slot) (n : Node) → node_of s ≡ Some n → node_of s ≡ Some s.node
-      of_slot s n e = elim (nat_eq s.node.low s.node.high) as (λ b. cond b None (Some s.node) ≡ Some n → cond b None (Some s.node) ≡ Some s.node) [ true ↦ λ e. cc | false ↦ λ e. refl ] e
+      (own_node slots h r.0 r.1, node_within slots h r.0 r.1)
 
   -- a held node, as `branch` tells it
   pub told_node : (h : ℕ) (n : Node) → node_in slots h ≡ Some n → let t : Table = table_of room slots marks round in (tree_of t h ≡ Branch n.level (tree_of t n.low) (tree_of t n.high)) × IsValid t n.low × IsValid t n.high

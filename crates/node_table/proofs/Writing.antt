@@ -119,3 +119,10 @@ module _ (slots : List Slot) (n : Node) (chain : ℕ) (apart : n.low ≢ n.high)
 -- a slot that was read
 pub slot_read : (slots : List Slot) (k : ℕ) (s : Slot) → k < length slots → s ≡ slice_index_or slots k s → s ≡ slot_at slots k
 slot_read slots k s l e = e ∙ get_or_default slots k s empty_slot l
+
+-- a number's node is the one that its slot holds
+pub own_node : (slots : List Slot) (k : ℕ) (n : Node) → node_in slots k ≡ Some n → node_in slots k ≡ Some (slot_at slots k).node
+own_node slots k n e = of_slot (slot_at slots k) e
+  where
+    of_slot : (s : Slot) → node_of s ≡ Some n → node_of s ≡ Some s.node
+    of_slot s e = elim (nat_eq s.node.low s.node.high) as (λ b. cond b None (Some s.node) ≡ Some n → cond b None (Some s.node) ≡ Some s.node) [ true ↦ λ e. cc | false ↦ λ e. refl ] e

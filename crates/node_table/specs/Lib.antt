@@ -4,3 +4,4 @@ pub mod Hash
 pub mod Chains
 pub mod Arrays
 pub mod Tells
+pub mod Marks

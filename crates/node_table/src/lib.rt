@@ -3,6 +3,7 @@
 #![tactic(auto)]
 
 mod arrays;
+mod collect;
 mod handle;
 mod marks;
 mod node;

@@ -1,0 +1,73 @@
+//! A collection: the nodes of the roots' trees are marked, and all other slots become free.
+
+ghost use Rattle.std.specs.Prelude.{◌≡◌, ℕ, ◌+◌, ◌<◌, ◌≤◌, ◌^◌, [], length, None, true, false, slice_index_or, vec_capacity};
+ghost use Rattle.node_table.specs.Unfold.{is_valid, IsWell};
+ghost use Rattle.node_table.specs.Chains.{IsChained, IsFree, head_in};
+ghost use Rattle.node_table.specs.Arrays.{node_in, chain_in};
+ghost use Rattle.node_table.specs.Marks.{has_mark, is_kept, IsReached, Reaches, ReachesAll, MarksNodes, IsClosed, Spreads, swept_from};
+
+use crate::arrays::{Slot, bucket_of};
+use crate::handle::Handle;
+use crate::node::Node;
+
+/// Marks a number, but a leaf's, and lets it wait for its children to be marked.
+fn reach(marks: &mut [u32], waiting: &mut Vec<u32>, round: u32, h: u32)
+    requires inside { h < length marks.old }
+    requires room { length marks.old ≤ vec_capacity waiting.old }
+    requires reached { IsReached marks.old waiting.old.items round }
+    requires rounds { (k : ℕ) → slice_index_or marks.old k 0 ≤ round }
+    ensures reached { IsReached marks.new waiting.new.items round }
+    ensures rounds { (k : ℕ) → slice_index_or marks.new k 0 ≤ round }
+    ensures reaches { Reaches marks.old marks.new round h }
+    ensures longer { length waiting.old.items ≤ length waiting.new.items }
+    ensures before { (j : ℕ) → j < length waiting.old.items → slice_index_or waiting.new.items j 0 ≡ slice_index_or waiting.old.items j 0 }
+    ensures room { vec_capacity waiting.new ≡ vec_capacity waiting.old }
+{
+    if h >= 2 && marks[h as usize] != round {
+        marks[h as usize] = round;
+        waiting.push_reserved(h);
+    }
+}
+
+/// Marks the numbers of handles.
+fn reach_all(marks: &mut [u32], waiting: &mut Vec<u32>, round: u32, roots: &[Handle])
+    requires inside { (j : ℕ) → j < length roots.now → slice_index_or roots.now j 0 < length marks.old }
+    requires room { length marks.old ≤ vec_capacity waiting.old }
+    requires reached { IsReached marks.old waiting.old.items round }
+    requires rounds { (k : ℕ) → slice_index_or marks.old k 0 ≤ round }
+    ensures reached { IsReached marks.new waiting.new.items round }
+    ensures rounds { (k : ℕ) → slice_index_or marks.new k 0 ≤ round }
+    ensures reaches { ReachesAll marks.old marks.new round roots.now (length roots.now) }
+    ensures room { vec_capacity waiting.new ≡ vec_capacity waiting.old }
+{
+    for root in roots {
+        reach(marks, waiting, round, root.number);
+    }
+}
+
+/// Marks the children of marked nodes, and theirs, each node once and in the order in which they were marked.
+fn spread(slots: &[Slot], marks: &mut [u32], waiting: &mut Vec<u32>, round: u32)
+    requires well { IsWell (node_in slots.now) }
+    requires leaves { 2 ≤ length slots.now }
+    requires few { length slots.now < 2 ^ 32 }
+    requires marked { length marks.old ≡ length slots.now }
+    requires room { length marks.old ≤ vec_capacity waiting.old }
+    requires reached { IsReached marks.old waiting.old.items round }
+    requires rounds { (k : ℕ) → slice_index_or marks.old k 0 ≤ round }
+    requires nodes { MarksNodes (node_in slots.now) marks.old round }
+    ensures reached { IsReached marks.new waiting.new.items round }
+    ensures rounds { (k : ℕ) → slice_index_or marks.new k 0 ≤ round }
+    ensures nodes { MarksNodes (node_in slots.now) marks.new round }
+    ensures closed { IsClosed (node_in slots.now) marks.new round }
+    ensures spreads { Spreads (node_in slots.now) marks.old marks.new round }
+    ensures room { vec_capacity waiting.new ≡ vec_capacity waiting.old }
+{
+    let mut at = 0;
+    while at < waiting.len() {
+        let node = slots[waiting[at] as usize].node;
+        reach(marks, waiting, round, node.low);
+        reach(marks, waiting, round, node.high);
+        at += 1;
+    }
+}
+
