@@ -9,3 +9,6 @@ pub mod Keeping
 pub mod Standing
 pub mod Rounds
 pub mod Marking
+pub mod Sweeping
+pub mod Relinking
+pub mod Collecting

@@ -5,3 +5,4 @@ pub mod Chains
 pub mod Arrays
 pub mod Tells
 pub mod Marks
+pub mod Collects

@@ -71,3 +71,62 @@ fn spread(slots: &[Slot], marks: &mut [u32], waiting: &mut Vec<u32>, round: u32)
     }
 }
 
+/// Frees each slot without a mark. The lowest free slots come first in their chain.
+fn sweep(slots: &mut [Slot], marks: &[u32], round: u32) -> u32
+    requires started { 0 < round }
+    requires leaves { 2 ≤ length slots.old }
+    requires few { length slots.old < 2 ^ 32 }
+    requires marked { length marks.now ≡ length slots.old }
+    requires nodes { MarksNodes (node_in slots.old) marks.now round }
+    requires no_zero { node_in slots.old 0 ≡ None }
+    requires no_one { node_in slots.old 1 ≡ None }
+    ensures left { (h : ℕ) → node_in slots.new h ≡ swept_from (node_in slots.old) marks.now round 2 h }
+    ensures free { IsFree (node_in slots.new) (chain_in slots.new) result (length slots.new) }
+{
+    let mut free = 0;
+    let mut at = slots.len();
+    while at > 2 {
+        at -= 1;
+        if marks[at] != round {
+            let node = Node {
+                level: 0,
+                low: 0,
+                high: 0,
+            };
+            slots[at] = Slot { node, chain: free };
+            free = at as u32;
+        }
+    }
+    free
+}
+
+/// Empties all buckets.
+fn clear(heads: &mut [u32])
+    ensures { (b : ℕ) → head_in heads.new b ≡ 0 }
+{
+    for head in heads.iter_mut() {
+        *head = 0;
+    }
+}
+
+/// Puts each node into its bucket again, the buckets being empty.
+fn relink(slots: &mut [Slot], heads: &mut [u32])
+    requires empty { (b : ℕ) → head_in heads.old b ≡ 0 }
+    requires leaves { 2 ≤ length slots.old }
+    requires buckets { 0 < length heads.old }
+    requires few { length slots.old < 2 ^ 32 }
+    requires no_zero { node_in slots.old 0 ≡ None }
+    requires no_one { node_in slots.old 1 ≡ None }
+    ensures nodes { (h : ℕ) → node_in slots.new h ≡ node_in slots.old h }
+    ensures frees { (h : ℕ) → node_in slots.old h ≡ None → chain_in slots.new h ≡ chain_in slots.old h }
+    ensures chained { IsChained (node_in slots.new) (chain_in slots.new) heads.new (length slots.new) }
+{
+    for at in 2..slots.len() {
+        let node = slots[at].node;
+        if node.low != node.high {
+            let bucket = bucket_of(heads.len(), node);
+            slots[at].chain = heads[bucket];
+            heads[bucket] = at as u32;
+        }
+    }
+}
