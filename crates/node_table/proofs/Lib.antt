@@ -12,3 +12,4 @@ pub mod Marking
 pub mod Sweeping
 pub mod Relinking
 pub mod Collecting
+pub mod Keeps

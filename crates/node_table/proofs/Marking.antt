@@ -1,22 +1,25 @@
 -- Numbers are marked, and wait for their children.
-use Rattle.std.proofs.Common.{◌≡◌, ◌≢◌, ℕ, zero, suc, ◌+◌, ◌<◌, ◌≤◌, List, [], ◌∷◌, ◌++◌, length, length-append, set, length-set, refl, ap, sym, ◌∙◌, arith, subst, ⊎_elim, inl, inr, get_or-set_other, get_or-set_same}
+use Rattle.std.proofs.Common.{◌≡◌, ◌≢◌, ℕ, zero, suc, ◌+◌, ◌<◌, ◌≤◌, List, [], ◌∷◌, ◌++◌, length, length-append, take, set, length-set, refl, ap, sym, ◌∙◌, arith, subst, ⊎_elim, inl, inr, get_or-set_other, get_or-set_same}
 use Rattle.std.specs.Prelude.{Bool, true, false, cond, ◌||◌, ◌⊎◌, nat_eq, Option, Some, None, slice_index_or}
 use Rattle.std.specs.List.{count_by}
+use Rattle.std.specs.Option.{is_some}
 use Rattle.std.specs.Set.{is_member}
 use Rattle.std.proofs.Math.Bool.{or-true}
 use Rattle.std.proofs.Math.ListN.{get_or-append}
 use Rattle.std.proofs.Math.Seq.{get_or-append_seam}
 use Rattle.std.proofs.lemmas.Bool.{cases_eq, cases_lt, or_cases}
 use Rattle.std.proofs.lemmas.Bool.Decides.{Decides-eqb}
-use Rattle.std.proofs.lemmas.List.{get_or_past}
+use Rattle.std.proofs.lemmas.List.{get_or_past, take_all}
 use Rattle.std.proofs.lemmas.List.Folds.{list_any-append}
-use Rattle.std.proofs.lemmas.List.Sums.{count_by-le-length, sum_by-set}
+use Rattle.std.proofs.lemmas.List.Sums.{count_by-le-length, count_by_more_no, count_by_more_yes, sum_by-set}
 use Rattle.node_tree.specs.Tree.{Tree, Zero, One, Branch, tree_eq, branches}
 use Rattle.node_tree.proofs.Same.{tree_eq-refl, same_tree}
 use Rattle.node_table.specs.declared.node.Node.{Node}
 use Rattle.node_table.specs.Unfold.{tree_at, is_valid, IsWell}
 use Rattle.node_table.specs.Marks.{has_mark, is_kept, IsReached, Reaches, ReachesAll, MarksNodes, IsClosed, Spreads}
+use Rattle.node_table.specs.Table.{numbers_below}
 use Rattle.node_table.proofs.Unfolds.{tree_at-node, found_from_valid}
+use Rattle.node_table.proofs.Rounds.{unequal}
 
 -- the children of the first numbers that wait are kept
 pub record IsDone (f : ℕ → Option Node) (marks waiting : List ℕ) (round at : ℕ) : Type 0 where
@@ -208,3 +211,49 @@ module _ (f : ℕ → Option Node) (well : IsWell f) where
   -- where all that waited is done, the marks are closed
   pub closed_at_end : (m w : List ℕ) (r at : ℕ) → IsReached m w r → IsDone f m w r at → length w ≤ at → IsClosed f m r
   closed_at_end m w r at x d l h s e k = let y = x.listed h k in d.children y.0 s (omega (arith, y.1, l)) (ap f y.2 ∙ e)
+
+-- ---- how many are marked
+
+-- none that passes the test
+count_none : (p : ℕ → Bool) (xs : List ℕ) → ((i : ℕ) → i < length xs → p (slice_index_or xs i 0) ≡ false) → count_by p xs ≡ 0
+count_none p xs none = sym (ap (λ (l : List ℕ). count_by p l) (take_all (length xs) xs (omega arith))) ∙ up_to (length xs) (omega arith)
+  where
+    up_to : (n : ℕ) → n ≤ length xs → count_by p (take n xs) ≡ 0
+    up_to zero l = refl
+    up_to (suc n) l =
+        let e : n + 1 ≡ suc n = omega arith in
+        subst (λ k. count_by p (take k xs) ≡ 0) e (count_by_more_no p xs n 0 (omega (arith, l)) (none n (omega (arith, l))) ∙ up_to n (omega (arith, l)))
+
+-- where nothing is marked, nothing waits
+pub reached_none : (m : List ℕ) (r : ℕ) → 0 < r → ((h : ℕ) → slice_index_or m h 0 < r) → IsReached m [] r
+reached_none m r s less = record {
+  started = s;
+  two = λ k e. absurd (unmarked k e);
+  listed = λ k e. absurd (unmarked k e);
+  marked = λ j l. absurd (omega (arith, l));
+  count = sym (count_none (λ y. nat_eq y r) m (λ i l. (let x = less i in unequal (slice_index_or m i 0) r (λ e. omega (arith, e, x)))));
+}
+  where
+    unmarked : (k : ℕ) → has_mark m r k ≡ true → ⊥
+    unmarked k e = let x = less k in let i : slice_index_or m k 0 ≡ r = (Decides-eqb (slice_index_or m k 0) r).0 e in omega (arith, i, x)
+
+-- the nodes that are left are as many as the marks
+pub marks_counted : (g : ℕ → Option Node) (m : List ℕ) (r : ℕ) → ((h : ℕ) → is_some (g h) ≡ has_mark m r h) → count_by (λ y. nat_eq y r) m ≡ length (numbers_below g (length m))
+marks_counted g m r same = sym (ap (λ (l : List ℕ). count_by (λ y. nat_eq y r) l) (take_all (length m) m (omega arith))) ∙ up_to (length m) (omega arith)
+  where
+    up_to : (n : ℕ) → n ≤ length m → count_by (λ y. nat_eq y r) (take n m) ≡ length (numbers_below g n)
+    up_to zero l = refl
+    up_to (suc n) l =
+        let e : n + 1 ≡ suc n = omega arith in
+        let rest = up_to n (omega (arith, l)) in
+        subst (λ k. count_by (λ y. nat_eq y r) (take k m) ≡ length (numbers_below g (suc n))) e
+        (elim (has_mark m r n) as (λ b. has_mark m r n ≡ b → count_by (λ y. nat_eq y r) (take (n + 1) m) ≡ length (cond (is_some (g n)) (n ∷ numbers_below g n) (numbers_below g n))) [
+          | true ↦ λ i. (
+              let c = count_by_more_yes (λ y. nat_eq y r) m n 0 (omega (arith, l)) i in
+              let d : length (cond (is_some (g n)) (n ∷ numbers_below g n) (numbers_below g n)) ≡ length (n ∷ numbers_below g n) = ap (λ b. length (cond b (n ∷ numbers_below g n) (numbers_below g n))) (same n ∙ i) in
+              omega (arith, c, d, rest))
+          | false ↦ λ i. (
+              let c = count_by_more_no (λ y. nat_eq y r) m n 0 (omega (arith, l)) i in
+              let d : length (cond (is_some (g n)) (n ∷ numbers_below g n) (numbers_below g n)) ≡ length (numbers_below g n) = ap (λ b. length (cond b (n ∷ numbers_below g n) (numbers_below g n))) (same n ∙ i) in
+              omega (arith, c, d, rest))
+        ] refl)

@@ -8,9 +8,11 @@ use Rattle.std.proofs.Math.ListN.{get_or-append}
 use Rattle.std.proofs.Math.Seq.{get_or-append_seam}
 use Rattle.node_table.specs.declared.node.Node.{Node}
 use Rattle.node_table.specs.declared.arrays.Slot.{Slot}
+use Rattle.node_table.specs.Unfold.{is_valid}
 use Rattle.node_table.specs.Hash.{bucket_of}
 use Rattle.node_table.specs.Chains.{IsChained, IsPlace, head_in}
 use Rattle.node_table.specs.Arrays.{node_of, empty_slot, slot_at, node_in, chain_in}
+use Rattle.node_table.proofs.Unfolds.{found_from_valid}
 use Rattle.node_table.proofs.Chaining.{chained_head, chained_place}
 
 -- a number that has a node is within the slots
@@ -126,3 +128,7 @@ own_node slots k n e = of_slot (slot_at slots k) e
   where
     of_slot : (s : Slot) → node_of s ≡ Some n → node_of s ≡ Some s.node
     of_slot s e = elim (nat_eq s.node.low s.node.high) as (λ b. cond b None (Some s.node) ≡ Some n → cond b None (Some s.node) ≡ Some s.node) [ true ↦ λ e. cc | false ↦ λ e. refl ] e
+
+-- a valid number has a slot
+pub valid_within : (slots : List Slot) (h : ℕ) → 2 ≤ length slots → is_valid (node_in slots) h ≡ true → h < length slots
+valid_within slots h two v = ⊎_elim (λ (q : h < 2). omega (arith, q, two)) (λ (q : 2 ≤ h). (let n = found_from_valid (node_in slots) h q v in node_within slots h n.0 n.1)) (cases_lt h 2)

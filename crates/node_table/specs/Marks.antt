@@ -53,3 +53,13 @@ pub record Spreads (f : ℕ → Option Node) (old new : List ℕ) (round : ℕ) 
 -- from a number on, what isn't kept has no node any more
 abbrev pub swept_from : (ℕ → Option Node) → List ℕ → ℕ → ℕ → ℕ → Option Node
 swept_from f marks round at h = if nat_le at h && not (is_kept marks round h) then None else f h
+
+-- what is marked is the nodes of the roots' trees
+pub record MarksTrees (f : ℕ → Option Node) (marks : List ℕ) (round : ℕ) (roots more : List ℕ) : Type 0 where
+  pub nodes : MarksNodes f marks round
+  pub closed : IsClosed f marks round
+  pub roots_kept : (j : ℕ) → j < length roots → is_kept marks round (slice_index_or roots j 0) ≡ true
+  pub more_kept : (j : ℕ) → j < length more → is_kept marks round (slice_index_or more j 0) ≡ true
+  pub only : (k : ℕ) → has_mark marks round k ≡ true →
+      ((j : ℕ) × (j < length roots) × (is_member tree_eq (branches (tree_at f (slice_index_or roots j 0))) (tree_at f k) ≡ true)) ⊎
+      ((j : ℕ) × (j < length more) × (is_member tree_eq (branches (tree_at f (slice_index_or more j 0))) (tree_at f k) ≡ true))

@@ -1,10 +1,11 @@
 //! A collection: the nodes of the roots' trees are marked, and all other slots become free.
 
-ghost use Rattle.std.specs.Prelude.{◌≡◌, ℕ, ◌+◌, ◌<◌, ◌≤◌, ◌^◌, [], length, None, true, false, slice_index_or, vec_capacity};
+ghost use Rattle.std.specs.Prelude.{◌≡◌, ℕ, ◌+◌, ◌<◌, ◌≤◌, ◌^◌, [], length, None, true, false, slice_index_or, nat_eq, vec_capacity};
+ghost use Rattle.std.specs.List.{count_by};
 ghost use Rattle.node_table.specs.Unfold.{is_valid, IsWell};
 ghost use Rattle.node_table.specs.Chains.{IsChained, IsFree, head_in};
 ghost use Rattle.node_table.specs.Arrays.{node_in, chain_in};
-ghost use Rattle.node_table.specs.Marks.{has_mark, is_kept, IsReached, Reaches, ReachesAll, MarksNodes, IsClosed, Spreads, swept_from};
+ghost use Rattle.node_table.specs.Marks.{has_mark, is_kept, IsReached, Reaches, ReachesAll, MarksNodes, IsClosed, Spreads, MarksTrees, swept_from};
 
 use crate::arrays::{Slot, bucket_of};
 use crate::handle::Handle;
@@ -71,6 +72,36 @@ fn spread(slots: &[Slot], marks: &mut [u32], waiting: &mut Vec<u32>, round: u32)
     }
 }
 
+/// Marks the nodes of the handles' trees, of which none is marked in the round, and says how many they are.
+pub fn mark_trees(
+    slots: &[Slot],
+    marks: &mut [u32],
+    waiting: &mut Vec<u32>,
+    round: u32,
+    roots: &[Handle],
+    more: &[Handle],
+) -> u32
+    requires well { IsWell (node_in slots.now) }
+    requires leaves { 2 ≤ length slots.now }
+    requires few { length slots.now < 2 ^ 32 }
+    requires marked { length marks.old ≡ length slots.now }
+    requires room { length marks.old ≤ vec_capacity waiting.old }
+    requires started { 0 < round }
+    requires none { (h : ℕ) → slice_index_or marks.old h 0 < round }
+    requires roots { (j : ℕ) → j < length roots.now → is_valid (node_in slots.now) (slice_index_or roots.now j 0) ≡ true }
+    requires more { (j : ℕ) → j < length more.now → is_valid (node_in slots.now) (slice_index_or more.now j 0) ≡ true }
+    ensures rounds { (k : ℕ) → slice_index_or marks.new k 0 ≤ round }
+    ensures trees { MarksTrees (node_in slots.now) marks.new round roots.now more.now }
+    ensures count { result ≡ count_by (λ m. nat_eq m round) marks.new }
+    ensures room { vec_capacity waiting.new ≡ vec_capacity waiting.old }
+{
+    waiting.clear();
+    reach_all(marks, waiting, round, roots);
+    reach_all(marks, waiting, round, more);
+    spread(slots, marks, waiting, round);
+    waiting.len() as u32
+}
+
 /// Frees each slot without a mark. The lowest free slots come first in their chain.
 fn sweep(slots: &mut [Slot], marks: &[u32], round: u32) -> u32
     requires started { 0 < round }
@@ -129,4 +160,24 @@ fn relink(slots: &mut [Slot], heads: &mut [u32])
             heads[bucket] = at as u32;
         }
     }
+}
+
+/// Frees the slots without a mark, and puts the other nodes into their buckets anew.
+pub fn rebuild(slots: &mut [Slot], heads: &mut [u32], marks: &[u32], round: u32) -> u32
+    requires started { 0 < round }
+    requires leaves { 2 ≤ length slots.old }
+    requires few { length slots.old < 2 ^ 32 }
+    requires marked { length marks.now ≡ length slots.old }
+    requires nodes { MarksNodes (node_in slots.old) marks.now round }
+    requires no_zero { node_in slots.old 0 ≡ None }
+    requires no_one { node_in slots.old 1 ≡ None }
+    requires buckets { 0 < length heads.old }
+    ensures left { (h : ℕ) → node_in slots.new h ≡ swept_from (node_in slots.old) marks.now round 2 h }
+    ensures free { IsFree (node_in slots.new) (chain_in slots.new) result (length slots.new) }
+    ensures chained { IsChained (node_in slots.new) (chain_in slots.new) heads.new (length slots.new) }
+{
+    let free = sweep(slots, marks, round);
+    clear(heads);
+    relink(slots, heads);
+    free
 }

@@ -4,8 +4,10 @@ ghost use Rattle.std.specs.Prelude.{◌≡◌, ℕ, [], ◌+◌, ◌<◌, ◌≤
 ghost use Rattle.node_tree.specs.Tree.{Tree, Zero, One, join, top};
 ghost use Rattle.node_table.specs.Table.{Table, tree_of, IsValid, is_marked, held, live_of, need, KeepsTrees, HoldsAlso, IsShared};
 ghost use Rattle.node_table.specs.Tells.{TellsTree};
+ghost use Rattle.node_table.specs.Collects.{AllValid, Collects};
 
 use crate::arrays::{Slot, bucket_of, find, hold, open_heads, open_slots};
+use crate::collect::{mark_trees, rebuild};
 use crate::handle::{Branch, Handle};
 use crate::marks::new_round;
 use crate::node::Node;
@@ -164,6 +166,28 @@ impl NodeTable {
         };
         self.live += 1;
         Ok(Handle { number })
+    }
+
+    /// Keeps the nodes of the trees of both lists, and frees all other slots.
+    pub fn collect(&mut self, roots: &[Handle], more: &[Handle])
+        requires roots { AllValid self.old roots.now }
+        requires more { AllValid self.old more.now }
+        ensures collected { Collects self.old self.new roots.now more.now }
+        ensures shared { IsShared self.new }
+    {
+        let round = new_round(&mut self.marks, self.round);
+        let live = mark_trees(
+            &self.slots,
+            &mut self.marks,
+            &mut self.waiting,
+            round,
+            roots,
+            more,
+        );
+        let free = rebuild(&mut self.slots, &mut self.heads, &self.marks, round);
+        self.round = round;
+        self.live = live;
+        self.free = free;
     }
 
     /// Leaves no handle marked. It visits no node, but where the rounds are counted from 1 again.

@@ -7,9 +7,8 @@ use Rattle.node_table.specs.declared.arrays.Slot.{Slot}
 use Rattle.node_table.specs.Unfold.{is_valid}
 use Rattle.node_table.specs.Arrays.{node_in, slot_at}
 use Rattle.node_table.specs.Marks.{has_mark, IsReached, MarksNodes}
-use Rattle.node_table.proofs.Unfolds.{found_from_valid}
 use Rattle.node_table.proofs.Marking.{IsDone, spreads_none, nodes_after, spreads_after, done_after, closed_at_end, waiting-le}
-use Rattle.node_table.proofs.Writing.{own_node, node_within}
+use Rattle.node_table.proofs.Writing.{own_node, node_within, valid_within}
 use Rattle.node_table.proofs.collect.spread.Goals as goal
 
 -- the node of a number that waits
@@ -19,10 +18,6 @@ waits slots marks waiting round at k r nodes l e =
     let is : k ≡ slice_index_or waiting at 0 = e ∙ get_or_default waiting at k 0 l in
     let n = nodes k (subst (λ z. has_mark marks round z ≡ true) (sym is) (r.marked at l)) in
     (is, own_node slots k n.0 n.1, node_within slots k n.0 n.1)
-
--- a valid number has a slot
-valid_within : (slots : List Slot) (h : ℕ) → 2 ≤ length slots → is_valid (node_in slots) h ≡ true → h < length slots
-valid_within slots h two v = ⊎_elim (λ (q : h < 2). omega (arith, q, two)) (λ (q : 2 ≤ h). (let n = found_from_valid (node_in slots) h q v in node_within slots h n.0 n.1)) (cases_lt h 2)
 
 pub loop-at-init : goal.loop-at-init
 loop-at-init c = record {
