@@ -27,7 +27,6 @@ module _ (room : ℕ) (slots : List Slot) (heads marks : List ℕ) (first round 
     (new : List Slot) (newer marked : List ℕ) (free after : ℕ) (roots more : List ℕ) (trees : MarksTrees (node_in slots) marked after roots more)
     (left : (h : ℕ) → node_in new h ≡ swept_from (node_in slots) marked after 2 h) (chained : IsChained (node_in new) (chain_in new) newer (length new)) (frees : IsFree (node_in new) (chain_in new) free (length new))
     (long : length new ≡ length slots) (size : length newer ≡ length heads) (places : length marked ≡ length marks) where
-
   two_on : (h : ℕ) (s : Node) → node_in slots h ≡ Some s → 2 ≤ h
   two_on zero s e = let z = k.linked.well.no_zero in cc
   two_on (suc zero) s e = let z = k.linked.well.no_one in cc

@@ -181,10 +181,18 @@ module _ (f : ℕ → Option Node) (well : IsWell f) where
           let y = spreads.only (slice_index_or wa at 0) marked_at in
           let n = nodes_after k e in
           ⊎_elim
-          (λ (q : k ≡ s.low). (y.0, y.1, branch_of_branch (tree_at f y.0) (tree_at f (slice_index_or wa at 0)) (tree_at f k) y.2
-          (subst (λ z. is_member tree_eq (branches (tree_at f (slice_index_or wa at 0))) (tree_at f z) ≡ true) (sym q) (low_branch (slice_index_or wa at 0) s n.0 node (ap f (sym q) ∙ n.1)))))
-          (λ (q : k ≡ s.high). (y.0, y.1, branch_of_branch (tree_at f y.0) (tree_at f (slice_index_or wa at 0)) (tree_at f k) y.2
-          (subst (λ z. is_member tree_eq (branches (tree_at f (slice_index_or wa at 0))) (tree_at f z) ≡ true) (sym q) (high_branch (slice_index_or wa at 0) s n.0 node (ap f (sym q) ∙ n.1)))))
+          (λ (q : k ≡ s.low). (
+            y.0,
+            y.1,
+            branch_of_branch (tree_at f y.0) (tree_at f (slice_index_or wa at 0)) (tree_at f k) y.2
+                (subst (λ z. is_member tree_eq (branches (tree_at f (slice_index_or wa at 0))) (tree_at f z) ≡ true) (sym q) (low_branch (slice_index_or wa at 0) s n.0 node (ap f (sym q) ∙ n.1))),
+          ))
+          (λ (q : k ≡ s.high). (
+            y.0,
+            y.1,
+            branch_of_branch (tree_at f y.0) (tree_at f (slice_index_or wa at 0)) (tree_at f k) y.2
+                (subst (λ z. is_member tree_eq (branches (tree_at f (slice_index_or wa at 0))) (tree_at f z) ≡ true) (sym q) (high_branch (slice_index_or wa at 0) s n.0 node (ap f (sym q) ∙ n.1))),
+          ))
           p)
           (cases k e);
     }

@@ -45,12 +45,12 @@ module _ (g : ℕ → Tree) (f : ℕ → Option Node) (one : (h k : ℕ) (s t : 
       elim (f n) as (λ o. f n ≡ o → AllByRecursion (λ y. tree_eq (g h) y ≡ false) (map g (cond (is_some o) (n ∷ numbers_below f n) (numbers_below f n)))) [
         | None ↦ λ i. apart h s e n (omega (arith, l))
         | Some t ↦ λ i. (
-            elim (tree_eq (g h) (g n)) as (λ b. tree_eq (g h) (g n) ≡ b → b ≡ false) [
-              | true ↦ λ x. (let k : h ≡ n = one h n s t e i (same_tree (g h) (g n) x) in absurd (omega (arith, k, l)))
-              | false ↦ λ x. refl
-            ] refl,
-            apart h s e n (omega (arith, l)),
-          )
+          elim (tree_eq (g h) (g n)) as (λ b. tree_eq (g h) (g n) ≡ b → b ≡ false) [
+            | true ↦ λ x. (let k : h ≡ n = one h n s t e i (same_tree (g h) (g n) x) in absurd (omega (arith, k, l)))
+            | false ↦ λ x. refl
+          ] refl,
+          apart h s e n (omega (arith, l)),
+        )
       ] refl
 
   -- numbers that differ have trees that differ

@@ -27,7 +27,6 @@ pub node_of-node : (n : Node) (chain : ℕ) → n.low ≢ n.high → node_of (re
 node_of-node n chain a = elim (nat_eq n.low n.high) as (λ b. nat_eq n.low n.high ≡ b → cond b None (Some n) ≡ Some n) [ true ↦ λ i. absurd (a ((Decides-eqb n.low n.high).0 i)) | false ↦ λ i. refl ] refl
 
 module _ (slots : List Slot) (number : ℕ) (n : Node) (chain : ℕ) (apart : n.low ≢ n.high) (fits : number < length slots) where
-
   pub written : (h : ℕ) → node_in (set slots number (record { node = n; chain = chain })) h ≡ cond (h == number) (Some n) (node_in slots h)
   written h = elim (h == number) as (λ b. (h == number) ≡ b → node_in (set slots number (record { node = n; chain = chain })) h ≡ cond b (Some n) (node_in slots h)) [
     | true ↦ λ i.

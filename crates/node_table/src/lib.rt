@@ -8,6 +8,8 @@ mod handle;
 mod marks;
 mod node;
 mod table;
+#[cfg(test)]
+mod tests;
 
 pub use handle::{Block, Branch, Handle};
 pub use table::{Full, NodeTable};

@@ -8,5 +8,5 @@ invariant-loop-root l = record {
   reached : IsReached l.marks l.waiting.items l.round;
   rounds : (k : ℕ) → slice_index_or l.marks k 0 ≤ l.round;
   reaches : ReachesAll l.initial.marks l.marks l.round l.roots l.root-index;
-  room : vec_capacity l.waiting ≡ vec_capacity l.initial.waiting
+  room : vec_capacity l.waiting ≡ vec_capacity l.initial.waiting;
 }

@@ -13,7 +13,7 @@ invariant-loop-at l = record {
   spreads : Spreads (node_in l.slots) l.initial.marks l.marks l.round;
   done : IsDone (node_in l.slots) l.marks l.waiting.items l.round l.at;
   within : l.at ≤ length l.waiting.items;
-  room : vec_capacity l.waiting ≡ vec_capacity l.initial.waiting
+  room : vec_capacity l.waiting ≡ vec_capacity l.initial.waiting;
 }
 
 abbrev pub decreases-loop-at : goal.decreases-loop-at

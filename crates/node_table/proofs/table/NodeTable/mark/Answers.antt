@@ -14,7 +14,6 @@ index_mut-mark-requires c =
     let within = valid_fits c.self.inside.room c.self.inside.slots.items c.self.inside.heads.items c.self.inside.marks.items c.self.inside.free c.self.inside.round kept.linked c.h.inside.number v in
     omega (arith, within, kept.marked)
 
-
 pub invariant_of-self : goal.invariant_of-self
 invariant_of-self c =
     let within = valid_fits c.self.inside.room c.self.inside.slots.items c.self.inside.heads.items c.self.inside.marks.items c.self.inside.free c.self.inside.round c.self.invariant.0.linked c.h.inside.number
