@@ -1,6 +1,6 @@
 -- Chains: what a walk keeps, and what one number more changes.
-use Rattle.std.proofs.Common.{◌≡◌, ◌≢◌, ℕ, zero, suc, ◌+◌, ◌<◌, ◌≤◌, List, length, set, refl, ap, sym, ◌∙◌, arith, subst, ⊎_elim, inl, inr, get_or-set_other, get_or-set_same, length-set}
-use Rattle.std.specs.Prelude.{Bool, true, false, cond, ◌==◌, ◌⊎◌, Option, Some, None}
+use Rattle.std.proofs.Common.{◌≡◌, ◌≢◌, ℕ, ◌+◌, ◌<◌, ◌≤◌, List, length, set, refl, ap, sym, ◌∙◌, arith, subst, ⊎_elim, inl, inr, get_or-set_other, get_or-set_same, length-set}
+use Rattle.std.specs.Prelude.{true, false, cond, ◌==◌, ◌⊎◌, Option, Some, None}
 use Rattle.std.proofs.lemmas.Bool.{cases_eq, cases_lt}
 use Rattle.std.proofs.lemmas.Bool.Decides.{Decides-eqb}
 use Rattle.node_table.specs.declared.node.Node.{Node}

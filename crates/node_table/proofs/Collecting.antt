@@ -1,6 +1,6 @@
 -- What is left after a collection is a table of the roots' trees.
-use Rattle.std.proofs.Common.{◌≡◌, ◌≢◌, ℕ, zero, suc, ◌+◌, ◌<◌, ◌≤◌, List, [], ◌∷◌, ◌++◌, length, refl, ap, sym, ◌∙◌, arith, subst, ⊎_elim, inl, inr}
-use Rattle.std.specs.Prelude.{Bool, true, false, cond, ◌||◌, ◌⊎◌, Option, Some, None, slice_index_or, map}
+use Rattle.std.proofs.Common.{◌≡◌, ℕ, zero, suc, ◌<◌, List, [], ◌∷◌, length, refl, ap, sym, ◌∙◌, arith, subst, ⊎_elim}
+use Rattle.std.specs.Prelude.{Bool, true, false, ◌||◌, ◌⊎◌, Some, None, slice_index_or, map}
 use Rattle.std.specs.Option.{is_some}
 use Rattle.std.specs.Cmp.{both_ways}
 use Rattle.std.specs.Set.{is_member}
@@ -9,11 +9,11 @@ use Rattle.std.proofs.Math.Bool.{or-true}
 use Rattle.std.proofs.lemmas.List.Folds.{list_any-append}
 use Rattle.node_tree.specs.Tree.{Tree, tree_eq, branches, branches_of}
 use Rattle.node_table.specs.declared.node.Node.{Node}
-use Rattle.node_table.specs.Unfold.{is_valid, level_of, level_at, IsWell, all_levels}
+use Rattle.node_table.specs.Unfold.{level_of, level_at, all_levels}
 use Rattle.node_table.specs.Table.{Table, node_at, tree_of, IsValid, held, IsTable}
 use Rattle.node_table.specs.Collects.{AllValid, Collects}
 use Rattle.node_table.proofs.Unfolds.{grown, valid-grown}
-use Rattle.node_table.proofs.Sharing.{held-branches, valid_from_found, has_tree, only_tree}
+use Rattle.node_table.proofs.Sharing.{held-branches, valid_from_found, only_tree}
 
 -- a member of the branches of a list of trees is one of some tree's
 member_of : (g : ℕ → Tree) (hs : List ℕ) (q : Tree) → is_member tree_eq (branches_of (map g hs)) q ≡ true → (j : ℕ) × (j < length hs) × (is_member tree_eq (branches (g (slice_index_or hs j 0))) q ≡ true)

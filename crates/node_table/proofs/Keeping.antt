@@ -1,13 +1,12 @@
 -- Arrays that stay well linked.
-use Rattle.std.proofs.Common.{◌≡◌, ◌≢◌, ℕ, ◌+◌, ◌<◌, ◌≤◌, List, [], ◌∷◌, ◌++◌, length, take, drop, refl, ap, sym, ◌∙◌, arith, subst, ⊎_elim}
+use Rattle.std.proofs.Common.{◌≡◌, ◌≢◌, ℕ, ◌+◌, ◌<◌, List, ◌++◌, length, take, ap, sym, ◌∙◌, arith, subst}
 use Rattle.std.specs.Prelude.{true, cond, ◌==◌, Some, None}
 use Rattle.std.proofs.Math.Seq.{take-append_seam}
-use Rattle.std.proofs.lemmas.Bool.{cases_lt}
 use Rattle.node_table.specs.declared.node.Node.{Node}
 use Rattle.node_table.specs.declared.arrays.Slot.{Slot}
 use Rattle.node_table.specs.Unfold.{is_valid, level_at}
 use Rattle.node_table.specs.Chains.{IsChained, IsFree}
-use Rattle.node_table.specs.Arrays.{node_in, chain_in, IsLinked, PutsNode}
+use Rattle.node_table.specs.Arrays.{node_in, chain_in, IsLinked}
 use Rattle.node_table.proofs.Unfolds.{level_at-le}
 use Rattle.node_table.proofs.Putting.{put_well}
 use Rattle.node_table.proofs.Chaining.{free_taken, free_none}

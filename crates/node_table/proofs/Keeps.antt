@@ -1,6 +1,6 @@
 -- What a collection leaves of the arrays.
-use Rattle.std.proofs.Common.{◌≡◌, ℕ, zero, suc, ◌<◌, ◌≤◌, List, length, refl, ap, sym, ◌∙◌, arith, subst, inl, inr, ⊎_elim}
-use Rattle.std.specs.Prelude.{Bool, true, false, Option, Some, None, nat_eq, slice_index_or, ◌⊎◌}
+use Rattle.std.proofs.Common.{◌≡◌, ℕ, zero, suc, ◌<◌, ◌≤◌, List, length, refl, ap, sym, ◌∙◌, arith, subst}
+use Rattle.std.specs.Prelude.{true, false, Option, Some, None, nat_eq, slice_index_or, ◌⊎◌}
 use Rattle.std.specs.Option.{is_some}
 use Rattle.std.specs.List.{count_by}
 use Rattle.std.specs.Set.{is_member}
@@ -9,9 +9,9 @@ use Rattle.node_tree.specs.Tree.{tree_eq, branches}
 use Rattle.node_table.specs.declared.node.Node.{Node}
 use Rattle.node_table.specs.declared.arrays.Slot.{Slot}
 use Rattle.node_table.specs.Unfold.{is_valid, tree_at, IsWell}
-use Rattle.node_table.specs.Table.{Table, node_at, tree_of, IsTable, IsShared, numbers_below}
+use Rattle.node_table.specs.Table.{node_at, IsTable, numbers_below}
 use Rattle.node_table.specs.Chains.{IsChained, IsFree}
-use Rattle.node_table.specs.Arrays.{node_of, node_in, chain_in, table_of, IsLinked, IsKept}
+use Rattle.node_table.specs.Arrays.{node_of, node_in, chain_in, table_of, IsKept}
 use Rattle.node_table.specs.Marks.{has_mark, is_kept, MarksTrees, swept_from}
 use Rattle.node_table.specs.Collects.{AllValid, Collects}
 use Rattle.node_table.proofs.Standing.{seen, is_table}

@@ -1,6 +1,6 @@
 -- Numbers are marked, and wait for their children.
 use Rattle.std.proofs.Common.{◌≡◌, ◌≢◌, ℕ, zero, suc, ◌+◌, ◌<◌, ◌≤◌, List, [], ◌∷◌, ◌++◌, length, length-append, take, set, length-set, refl, ap, sym, ◌∙◌, arith, subst, ⊎_elim, inl, inr, get_or-set_other, get_or-set_same}
-use Rattle.std.specs.Prelude.{Bool, true, false, cond, ◌||◌, ◌⊎◌, nat_eq, Option, Some, None, slice_index_or}
+use Rattle.std.specs.Prelude.{Bool, true, false, cond, ◌||◌, ◌⊎◌, nat_eq, Option, Some, slice_index_or}
 use Rattle.std.specs.List.{count_by}
 use Rattle.std.specs.Option.{is_some}
 use Rattle.std.specs.Set.{is_member}
@@ -9,7 +9,7 @@ use Rattle.std.proofs.Math.ListN.{get_or-append}
 use Rattle.std.proofs.Math.Seq.{get_or-append_seam}
 use Rattle.std.proofs.lemmas.Bool.{cases_eq, cases_lt, or_cases}
 use Rattle.std.proofs.lemmas.Bool.Decides.{Decides-eqb}
-use Rattle.std.proofs.lemmas.List.{get_or_past, take_all}
+use Rattle.std.proofs.lemmas.List.{take_all}
 use Rattle.std.proofs.lemmas.List.Folds.{list_any-append}
 use Rattle.std.proofs.lemmas.List.Sums.{count_by-le-length, count_by_more_no, count_by_more_yes, sum_by-set}
 use Rattle.node_tree.specs.Tree.{Tree, Zero, One, Branch, tree_eq, branches}

@@ -1,6 +1,6 @@
 -- The numbers that have a node, and how many they are.
-use Rattle.std.proofs.Common.{◌≡◌, ℕ, zero, suc, ◌+◌, ◌<◌, ◌≤◌, List, [], ◌∷◌, length, refl, ap, sym, ◌∙◌, arith, subst, ⊎_elim, map}
-use Rattle.std.specs.Prelude.{Bool, true, false, cond, ◌||◌, ◌≢◌, ◌==◌, Option, Some, None, is_some, IsSome}
+use Rattle.std.proofs.Common.{◌≡◌, ℕ, zero, suc, ◌+◌, ◌<◌, ◌≤◌, List, ◌∷◌, length, refl, ap, sym, ◌∙◌, arith, ⊎_elim, map}
+use Rattle.std.specs.Prelude.{true, false, cond, ◌||◌, ◌≢◌, ◌==◌, Option, Some, None, is_some}
 use Rattle.std.specs.Set.{is_member}
 use Rattle.std.specs.List.{IsDistinct, AllByRecursion}
 use Rattle.std.proofs.lemmas.Bool.{or_cases, cases_eq}

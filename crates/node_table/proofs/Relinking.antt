@@ -1,12 +1,12 @@
 -- Nodes come into their buckets again, from the first one up.
-use Rattle.std.proofs.Common.{◌≡◌, ◌≢◌, ℕ, zero, suc, ◌+◌, ◌<◌, ◌≤◌, List, length, set, refl, ap, sym, ◌∙◌, arith, subst, ⊎_elim}
-use Rattle.std.specs.Prelude.{Bool, true, false, cond, ◌==◌, nat_lt, Option, Some, None}
+use Rattle.std.proofs.Common.{◌≡◌, ◌≢◌, ℕ, ◌+◌, ◌<◌, ◌≤◌, List, length, set, refl, ap, sym, ◌∙◌, arith, subst, ⊎_elim}
+use Rattle.std.specs.Prelude.{true, false, cond, ◌==◌, nat_lt, Option, Some, None}
 use Rattle.std.proofs.Math.Path.{fun_ext}
 use Rattle.std.proofs.lemmas.Bool.{cases_eq, cases_lt}
 use Rattle.std.proofs.lemmas.Bool.Decides.{Decides-eqb, nat_tests}
 use Rattle.node_table.specs.declared.node.Node.{Node}
 use Rattle.node_table.specs.Hash.{bucket_of}
-use Rattle.node_table.specs.Chains.{head_in, IsChained, IsNextNode}
+use Rattle.node_table.specs.Chains.{head_in, IsChained}
 use Rattle.node_table.proofs.Chaining.{chained_head}
 
 -- the nodes below a number

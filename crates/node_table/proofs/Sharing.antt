@@ -1,6 +1,6 @@
 -- What every table promises, and what one node more changes.
-use Rattle.std.proofs.Common.{◌≡◌, ℕ, zero, suc, ◌+◌, ◌<◌, ◌≤◌, List, [], ◌∷◌, ◌++◌, length, refl, ap, sym, ◌∙◌, arith, rules, subst, inl, inr, ⊎_elim}
-use Rattle.std.specs.Prelude.{Bool, true, false, cond, ◌||◌, ◌==◌, Option, Some, None, ◌≢◌, map}
+use Rattle.std.proofs.Common.{◌≡◌, ℕ, zero, suc, ◌+◌, ◌<◌, ◌≤◌, List, [], ◌∷◌, ◌++◌, length, refl, ap, sym, ◌∙◌, arith, subst, ⊎_elim}
+use Rattle.std.specs.Prelude.{Bool, true, false, cond, ◌||◌, ◌==◌, Option, Some, None, ◌≢◌}
 use Rattle.std.specs.Option.{is_some}
 use Rattle.std.specs.Cmp.{both_ways}
 use Rattle.std.specs.List.{IsDistinct, AllByRecursion, list_any}
@@ -12,16 +12,15 @@ use Rattle.std.proofs.lemmas.List.{length-map}
 use Rattle.std.proofs.lemmas.List.Folds.{list_any-append}
 use Rattle.std.proofs.lemmas.Map.Keys.{IsDistinct-cons}
 use Rattle.std.proofs.lemmas.Map.Made.{length-from_keys}
-use Rattle.node_tree.specs.Tree.{Tree, Zero, One, Branch, tree_eq, branches, join, top}
+use Rattle.node_tree.specs.Tree.{Tree, Branch, tree_eq, branches, top}
 use Rattle.node_tree.proofs.Same.{tree_eq-refl, same_tree}
 use Rattle.node_tree.proofs.Counting.{tree_eq_laws}
-use Rattle.node_tree.proofs.Joins.{join-apart, join-same}
 use Rattle.node_tree.proofs.Setting.{weaken}
 use Rattle.node_table.specs.declared.node.Node.{Node}
 use Rattle.node_table.specs.Unfold.{tree_in, tree_at, node_tree, is_valid, level_of, level_at, IsWell, all_levels, all_levels-big}
 use Rattle.node_table.specs.Table.{Table, node_at, tree_of, IsValid, numbers, held, live_of, need, KeepsTrees, HoldsAlso, IsTable, IsShared}
 use Rattle.node_table.proofs.Unfolds.{enough, level_at-le, tree_at-zero, tree_at-one, tree_at-one_number, tree_at-canonical, tree_at-node, grown, valid-grown}
-use Rattle.node_table.proofs.Numbers.{has, only, distinct, few, all_taken}
+use Rattle.node_table.proofs.Numbers.{has, only, distinct, few}
 use Rattle.node_table.proofs.Putting.{put_more, put_here, put_cases, put_well}
 
 -- each Branch of a held tree is held

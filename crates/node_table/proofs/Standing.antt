@@ -1,16 +1,16 @@
 -- What the arrays stand for is a table.
 use Rattle.std.proofs.Common.{◌≡◌, ◌≢◌, ℕ, zero, suc, ◌+◌, ◌<◌, ◌≤◌, List, [], ◌∷◌, length, refl, ap, sym, ◌∙◌, arith, subst, ⊎_elim}
-use Rattle.std.specs.Prelude.{true, false, cond, ◌==◌, Option, Some, None, map, nat_eq, slice_index_or}
+use Rattle.std.specs.Prelude.{true, cond, ◌==◌, Option, Some, slice_index_or}
 use Rattle.std.proofs.Math.Path.{fun_ext}
 use Rattle.std.proofs.lemmas.Bool.{cases_lt}
 use Rattle.std.proofs.Math.ListN.{get_or-map}
 use Rattle.std.proofs.lemmas.List.{length-map, get_or_past}
-use Rattle.node_tree.specs.Tree.{Tree, Branch, join, top}
+use Rattle.node_tree.specs.Tree.{Branch, join, top}
 use Rattle.node_table.specs.declared.node.Node.{Node}
 use Rattle.node_table.specs.declared.arrays.Slot.{Slot}
 use Rattle.node_table.specs.Unfold.{is_valid, level_at, IsWell, tree_at}
-use Rattle.node_table.specs.Table.{Table, node_at, tree_of, IsValid, live_of, need, numbers_below, IsTable}
-use Rattle.node_table.specs.Arrays.{node_of, empty_slot, slot_at, node_in, table_of, IsLinked, IsKept, PutsNode}
+use Rattle.node_table.specs.Table.{Table, node_at, tree_of, IsValid, live_of, numbers_below, IsTable}
+use Rattle.node_table.specs.Arrays.{node_of, empty_slot, slot_at, node_in, table_of, IsLinked, PutsNode}
 use Rattle.node_table.proofs.Unfolds.{tree_at-canonical, tree_at-node}
 use Rattle.node_table.proofs.Numbers.{one_more, none_past}
 use Rattle.node_table.proofs.Making.{MakesNode, makes_put}

@@ -1,16 +1,14 @@
 -- Slots without a mark become free, from the last one down.
-use Rattle.std.proofs.Common.{◌≡◌, ◌≢◌, ℕ, zero, suc, ◌+◌, ◌<◌, ◌≤◌, List, length, set, refl, ap, sym, ◌∙◌, arith, subst, ⊎_elim, get_or-set_other, get_or-set_same}
-use Rattle.std.specs.Prelude.{Bool, true, false, cond, ◌&&◌, not, ◌==◌, nat_eq, nat_le, Option, Some, None, slice_index_or}
+use Rattle.std.proofs.Common.{◌≡◌, ◌≢◌, ℕ, ◌+◌, ◌<◌, ◌≤◌, List, length, set, refl, ap, sym, ◌∙◌, arith, subst, ⊎_elim, get_or-set_other, get_or-set_same}
+use Rattle.std.specs.Prelude.{Bool, true, false, cond, ◌&&◌, not, nat_le, Option, Some, None}
 use Rattle.std.proofs.lemmas.Bool.{cases_eq, cases_lt}
-use Rattle.std.proofs.lemmas.Bool.Decides.{Decides-eqb, nat_tests}
-use Rattle.std.proofs.lemmas.List.{get_or_past}
+use Rattle.std.proofs.lemmas.Bool.Decides.{nat_tests}
 use Rattle.node_table.specs.declared.node.Node.{Node}
 use Rattle.node_table.specs.declared.arrays.Slot.{Slot}
 use Rattle.node_table.specs.Chains.{IsNextFree, IsFree}
-use Rattle.node_table.specs.Arrays.{node_of, empty_slot, slot_at, node_in, chain_in}
+use Rattle.node_table.specs.Arrays.{node_of, empty_slot, node_in, chain_in}
 use Rattle.node_table.specs.Marks.{has_mark, is_kept, MarksNodes, swept_from}
 use Rattle.node_table.proofs.Marking.{mark_from_kept}
-use Rattle.node_table.proofs.Rounds.{unequal}
 
 -- the slots from a number on are swept
 pub record Sweeps (f g : ℕ → Option Node) (chain : ℕ → ℕ) (marks : List ℕ) (round at free limit : ℕ) : Type 0 where

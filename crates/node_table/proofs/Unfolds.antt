@@ -1,9 +1,8 @@
 -- Laws of the trees under numbers.
-use Rattle.std.proofs.Common.{◌≡◌, ℕ, zero, suc, ◌+◌, ◌<◌, ◌≤◌, refl, ap, sym, ◌∙◌, arith, rules, subst}
-use Rattle.std.specs.Prelude.{Bool, true, false, Option, Some, None, ◌≢◌}
+use Rattle.std.proofs.Common.{◌≡◌, ℕ, zero, suc, ◌+◌, ◌<◌, ◌≤◌, refl, ap, sym, ◌∙◌, arith}
+use Rattle.std.specs.Prelude.{true, Option, Some, None}
 use Rattle.std.specs.Option.{is_some}
-use Rattle.std.proofs.lemmas.Grind.{common_steps}
-use Rattle.node_tree.specs.Tree.{Tree, Zero, One, Branch, top, IsOrderedFrom, IsReduced}
+use Rattle.node_tree.specs.Tree.{Zero, One, Branch, top, IsOrderedFrom, IsReduced}
 use Rattle.node_tree.proofs.Setting.{weaken}
 use Rattle.node_table.specs.declared.node.Node.{Node}
 use Rattle.node_table.specs.Unfold.{node_tree, tree_in, all_levels, all_levels-big, tree_at, is_valid, level_of, level_at, IsWell}

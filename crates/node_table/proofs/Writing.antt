@@ -1,6 +1,6 @@
 -- Slots that are written.
 use Rattle.std.proofs.Common.{◌≡◌, ◌≢◌, ℕ, ◌+◌, ◌<◌, ◌≤◌, List, [], ◌∷◌, ◌++◌, length, length-append, set, refl, ap, sym, ◌∙◌, arith, subst, ⊎_elim, get_or-set_other, get_or-set_same, length-set}
-use Rattle.std.specs.Prelude.{Bool, true, false, cond, ◌==◌, nat_eq, Option, Some, None, slice_index_or}
+use Rattle.std.specs.Prelude.{true, false, cond, ◌==◌, nat_eq, Some, None, slice_index_or}
 use Rattle.std.proofs.lemmas.Bool.{cases_eq, cases_lt}
 use Rattle.std.proofs.lemmas.Bool.Decides.{Decides-eqb}
 use Rattle.std.proofs.lemmas.List.{get_or_past, get_or_default}

@@ -1,11 +1,10 @@
 -- Marks of a round, and the nodes that a collection keeps.
-use Rattle.std.specs.Prelude.{◌≡◌, ℕ, zero, suc, ◌<◌, ◌≤◌, ◌⊎◌, Bool, true, false, List, length, Option, Some, None, nat_eq, nat_le, ◌&&◌, not, if◌then◌else◌, slice_index_or}
+use Rattle.std.specs.Prelude.{◌≡◌, ℕ, zero, suc, ◌<◌, ◌≤◌, ◌⊎◌, Bool, true, List, length, Option, Some, None, nat_eq, nat_le, ◌&&◌, not, if◌then◌else◌, slice_index_or}
 use Rattle.std.specs.List.{count_by}
 use Rattle.std.specs.Set.{is_member}
 use Rattle.node_tree.specs.Tree.{tree_eq, branches}
 use Rattle.node_table.specs.declared.node.Node.{Node}
 use Rattle.node_table.specs.Unfold.{tree_at}
-use Rattle.node_table.specs.Chains.{IsNextFree}
 
 -- whether a number is marked in a round
 abbrev pub has_mark : List ℕ → ℕ → ℕ → Bool

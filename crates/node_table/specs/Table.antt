@@ -1,5 +1,5 @@
 -- What contracts see of a table of nodes.
-use Rattle.std.specs.Prelude.{◌≡◌, ℕ, zero, suc, ◌+◌, ◌<◌, ◌≤◌, ◌∷◌, ◌++◌, ◌||◌, Bool, true, false, List, [], Option, Some, None, is_some, if◌then◌else◌, map, length, slice_index_or}
+use Rattle.std.specs.Prelude.{◌≡◌, ℕ, zero, suc, ◌+◌, ◌≤◌, ◌∷◌, ◌++◌, ◌||◌, Bool, true, false, List, [], Option, None, is_some, if◌then◌else◌, map, length, slice_index_or}
 use Rattle.std.specs.Set.{is_member, distinct_count}
 use Rattle.node_tree.specs.Tree.{Tree, Zero, One, tree_eq, branches, IsOrdered, IsReduced}
 use Rattle.node_table.specs.declared.node.Node.{Node}

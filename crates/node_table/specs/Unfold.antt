@@ -1,6 +1,6 @@
 -- The tree under a number, where a function says which node a number has.
 use Rattle.std.proofs.Common.{lit<}
-use Rattle.std.specs.Prelude.{◌≡◌, ◌≢◌, ℕ, zero, suc, ◌<◌, Bool, true, false, Option, Some, None}
+use Rattle.std.specs.Prelude.{◌≡◌, ◌≢◌, ℕ, zero, suc, ◌<◌, Bool, true, Option, Some, None}
 use Rattle.std.specs.Option.{is_some}
 use Rattle.node_table.specs.declared.node.Node.{Node}
 use Rattle.node_tree.specs.Tree.{Tree, Zero, One, Branch}

@@ -1,4 +1,4 @@
-use Rattle.std.proofs.Common.{◌≡◌, List, [], ◌∷◌, ◌++◌, length, refl, sym, subst, set}
+use Rattle.std.proofs.Common.{◌≡◌, List, length, refl, sym, subst, set}
 use Rattle.std.specs.Prelude.{slice_index_or}
 use Rattle.node_table.specs.declared.arrays.Slot.{Slot}
 use Rattle.node_table.specs.Chains.{IsChained}

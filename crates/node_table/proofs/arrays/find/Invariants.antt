@@ -1,5 +1,5 @@
-use Rattle.std.proofs.Common.{◌≡◌, ℕ, ◌≤◌, length, Some}
-use Rattle.node_table.specs.Arrays.{node_in, chain_in}
+use Rattle.std.proofs.Common.{length}
+use Rattle.node_table.specs.Arrays.{node_in}
 use Rattle.node_table.proofs.Chaining.{Seeks}
 use Rattle.node_table.proofs.arrays.find.Given as goal
 

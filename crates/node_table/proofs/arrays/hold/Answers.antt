@@ -1,4 +1,4 @@
-use Rattle.std.proofs.Common.{◌≡◌, ◌≢◌, ◌<◌, ◌≤◌, ℕ, ◌+◌, List, ◌++◌, length, take, drop, refl, sym, ap, ◌∙◌, subst, arith}
+use Rattle.std.proofs.Common.{◌≡◌, ℕ, List, length, drop, sym, ap, subst, arith}
 use Rattle.std.specs.Prelude.{Some, None, ◌==◌, cond}
 use Rattle.std.proofs.lemmas.List.{get_or_past}
 use Rattle.node_table.specs.declared.arrays.Slot.{Slot}

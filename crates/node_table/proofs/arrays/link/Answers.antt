@@ -1,4 +1,4 @@
-use Rattle.std.proofs.Common.{refl, arith, ◌≤◌, ◌<◌}
+use Rattle.std.proofs.Common.{refl}
 use Rattle.std.specs.Prelude.{slice_index_or}
 use Rattle.node_table.proofs.Writing.{linked_head, linked_place}
 use Rattle.node_table.proofs.arrays.link.Goals as goal

@@ -1,8 +1,8 @@
-use Rattle.std.proofs.Common.{◌≡◌, ◌<◌, ◌∙◌, ℕ, List, length, subst, arith, sym, ap, ⊎_elim, []}
-use Rattle.std.specs.Prelude.{slice_index_or, true, ◌⊎◌}
+use Rattle.std.proofs.Common.{◌≡◌, ℕ, List, subst, arith, sym, ⊎_elim}
+use Rattle.std.specs.Prelude.{slice_index_or, true}
 use Rattle.node_table.specs.Unfold.{is_valid}
 use Rattle.node_table.specs.Arrays.{node_in}
-use Rattle.node_table.specs.Marks.{has_mark, IsReached}
+use Rattle.node_table.specs.Marks.{IsReached}
 use Rattle.node_table.proofs.Unfolds.{found_from_valid}
 use Rattle.node_table.proofs.Marking.{reached_none}
 use Rattle.node_table.proofs.Writing.{valid_within}

@@ -1,4 +1,4 @@
-use Rattle.std.proofs.Common.{◌<◌, List, ℕ, length, arith, subst, sym, set}
+use Rattle.std.proofs.Common.{List, ℕ, arith, subst, sym, set}
 use Rattle.node_table.specs.Marks.{IsReached}
 use Rattle.node_table.proofs.Marking.{reached_new, room_left}
 use Rattle.node_table.proofs.Rounds.{unequal}

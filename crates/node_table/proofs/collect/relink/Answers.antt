@@ -1,9 +1,9 @@
-use Rattle.std.proofs.Common.{◌≡◌, ◌≢◌, ◌<◌, ◌≤◌, ◌+◌, ◌∙◌, ℕ, List, length, length-set, set, refl, subst, arith, sym, ap, get_or-set_same, get_or-set_other}
-use Rattle.std.specs.Prelude.{slice_index_or, true, false, None, Some, cond, nat_eq}
+use Rattle.std.proofs.Common.{◌≡◌, ◌<◌, ◌≤◌, ◌+◌, ℕ, List, length, set, subst, arith, sym, ap, get_or-set_same, get_or-set_other}
+use Rattle.std.specs.Prelude.{slice_index_or, None, Some, cond}
 use Rattle.std.proofs.lemmas.List.{get_or_past}
 use Rattle.std.proofs.lemmas.Bool.Decides.{Decides-eqb}
 use Rattle.node_table.specs.declared.arrays.Slot.{Slot}
-use Rattle.node_table.specs.Chains.{head_in, IsChained}
+use Rattle.node_table.specs.Chains.{IsChained}
 use Rattle.node_table.specs.Arrays.{node_of, empty_slot, slot_at, node_in, chain_in}
 use Rattle.node_table.proofs.Relinking.{Relinks, relinks_free, relinks_node, chained_at_end}
 use Rattle.node_table.proofs.Writing.{node_of-node, relinked}

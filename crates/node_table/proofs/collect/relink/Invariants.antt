@@ -1,4 +1,3 @@
-use Rattle.std.proofs.Common.{◌≡◌, ◌≤◌, ℕ, length, None}
 use Rattle.node_table.specs.Arrays.{node_in, chain_in}
 use Rattle.node_table.proofs.Relinking.{Relinks}
 use Rattle.node_table.proofs.collect.relink.Given as goal

@@ -1,13 +1,11 @@
-use Rattle.std.proofs.Common.{◌≡◌, ◌<◌, ◌≤◌, ◌+◌, ◌∙◌, ℕ, List, length, refl, subst, arith, sym, ap, ⊎_elim}
-use Rattle.std.specs.Prelude.{slice_index_or, Some, true, None, Option}
-use Rattle.std.proofs.lemmas.Bool.{cases_lt}
+use Rattle.std.proofs.Common.{◌≡◌, ◌<◌, ◌∙◌, ℕ, List, length, refl, subst, arith, sym, ap}
+use Rattle.std.specs.Prelude.{slice_index_or, Some, true}
 use Rattle.std.proofs.lemmas.List.{get_or_default}
 use Rattle.node_table.specs.declared.node.Node.{Node}
 use Rattle.node_table.specs.declared.arrays.Slot.{Slot}
-use Rattle.node_table.specs.Unfold.{is_valid}
 use Rattle.node_table.specs.Arrays.{node_in, slot_at}
 use Rattle.node_table.specs.Marks.{has_mark, IsReached, MarksNodes}
-use Rattle.node_table.proofs.Marking.{IsDone, spreads_none, nodes_after, spreads_after, done_after, closed_at_end, waiting-le}
+use Rattle.node_table.proofs.Marking.{spreads_none, nodes_after, spreads_after, done_after, closed_at_end}
 use Rattle.node_table.proofs.Writing.{own_node, node_within, valid_within}
 use Rattle.node_table.proofs.collect.spread.Goals as goal
 

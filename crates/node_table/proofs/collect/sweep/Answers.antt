@@ -1,9 +1,7 @@
-use Rattle.std.proofs.Common.{◌≡◌, ◌≢◌, ◌<◌, ◌≤◌, ◌+◌, ◌-◌, ◌∙◌, ℕ, List, length, length-set, set, refl, subst, arith, sym, ap}
-use Rattle.std.specs.Prelude.{slice_index_or, true, false, nat_eq}
+use Rattle.std.proofs.Common.{◌≡◌, ◌<◌, ◌+◌, ◌-◌, ℕ, length, length-set, set, subst, arith, sym}
+use Rattle.std.specs.Prelude.{slice_index_or}
 use Rattle.std.proofs.lemmas.Bool.Decides.{Decides-eqb}
-use Rattle.node_table.specs.declared.arrays.Slot.{Slot}
 use Rattle.node_table.specs.Arrays.{node_in, chain_in}
-use Rattle.node_table.specs.Marks.{has_mark}
 use Rattle.node_table.proofs.Sweeping.{Sweeps, sweeps_kept, sweeps_gone, emptied_here, emptied_other, emptied_own, emptied_rest}
 use Rattle.node_table.proofs.Rounds.{unequal}
 use Rattle.node_table.proofs.collect.sweep.Goals as goal

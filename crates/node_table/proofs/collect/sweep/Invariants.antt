@@ -1,4 +1,4 @@
-use Rattle.std.proofs.Common.{◌≡◌, ◌≤◌, ℕ, length}
+use Rattle.std.proofs.Common.{length}
 use Rattle.node_table.specs.Arrays.{node_in, chain_in}
 use Rattle.node_table.proofs.Sweeping.{Sweeps}
 use Rattle.node_table.proofs.collect.sweep.Given as goal

@@ -1,10 +1,8 @@
-use Rattle.std.proofs.Common.{◌≡◌, ◌≢◌, ◌<◌, length, ℕ, ap, sym, subst, arith, ◌∙◌}
+use Rattle.std.proofs.Common.{◌≡◌, ◌<◌, length, ap, sym, subst, arith, ◌∙◌}
 use Rattle.std.specs.Prelude.{Some}
-use Rattle.node_table.specs.declared.node.Node.{Node}
 use Rattle.node_table.specs.declared.arrays.Slot.{Slot}
-use Rattle.node_table.specs.Arrays.{node_in}
 use Rattle.node_tree.specs.Tree.{Branch}
-use Rattle.node_table.specs.Table.{Table, IsShared, IsValid, tree_of}
+use Rattle.node_table.specs.Table.{IsShared, IsValid, tree_of}
 use Rattle.node_table.proofs.Sharing.{shared}
 use Rattle.node_table.proofs.Standing.{is_table, has_slot, told_node, back, forth}
 use Rattle.node_table.proofs.Writing.{slot_read}

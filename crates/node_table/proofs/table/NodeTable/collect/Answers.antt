@@ -1,6 +1,5 @@
-use Rattle.std.proofs.Common.{◌≡◌, ◌<◌, ◌≤◌, ◌∙◌, ℕ, List, length, drop, take, ◌++◌, subst, arith, sym, ap}
-use Rattle.std.specs.Prelude.{true, Some}
-use Rattle.node_table.specs.declared.node.Node.{Node}
+use Rattle.std.proofs.Common.{◌≡◌, ◌<◌, ◌∙◌, ℕ, List, length, drop, take, ◌++◌, subst, arith, sym}
+use Rattle.std.specs.Prelude.{true}
 use Rattle.node_table.specs.declared.arrays.Slot.{Slot}
 use Rattle.node_table.specs.Unfold.{is_valid}
 use Rattle.node_table.specs.Table.{Table, IsShared}

@@ -1,11 +1,10 @@
-use Rattle.std.proofs.Common.{◌≡◌, ◌≢◌, ℕ, ◌+◌, ◌<◌, ◌≤◌, List, length, drop, refl, ap, sym, subst, arith, ◌∙◌}
-use Rattle.std.specs.Prelude.{Option, Some, None, Ok, Err}
-use Rattle.node_tree.specs.Tree.{Tree, join, top}
+use Rattle.std.proofs.Common.{◌≡◌, ℕ, ◌<◌, List, length, drop, refl, ap, sym, subst, arith, ◌∙◌}
+use Rattle.std.specs.Prelude.{Option, Some}
+use Rattle.node_tree.specs.Tree.{join, top}
 use Rattle.node_table.specs.declared.node.Node.{Node}
 use Rattle.node_table.specs.declared.arrays.Slot.{Slot}
-use Rattle.node_table.specs.Unfold.{is_valid, level_at}
 use Rattle.node_table.specs.Table.{Table, IsTable, IsShared, tree_of, IsValid, live_of, need}
-use Rattle.node_table.specs.Arrays.{node_of, node_in, chain_in, table_of, IsLinked, IsKept, PutsNode}
+use Rattle.node_table.specs.Arrays.{node_of, node_in, table_of, IsLinked}
 use Rattle.std.proofs.lemmas.List.{length-map}
 use Rattle.node_table.proofs.Keeping.{came_back}
 use Rattle.node_table.proofs.Sharing.{shared}

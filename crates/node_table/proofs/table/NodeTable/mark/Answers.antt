@@ -1,8 +1,8 @@
-use Rattle.std.proofs.Common.{◌≡◌, ◌≢◌, ℕ, ◌<◌, ◌≤◌, List, length, set, length-set, ap, sym, ◌∙◌, arith, subst, ⊎_elim}
-use Rattle.std.specs.Prelude.{true, false, cond, not, nat_eq, ◌==◌, IsTrue, ◌↔◌, slice_index_or}
+use Rattle.std.proofs.Common.{◌≡◌, ℕ, ◌<◌, length, set, length-set, ap, sym, ◌∙◌, arith, subst}
+use Rattle.std.specs.Prelude.{true, false, cond, not, nat_eq, ◌==◌, IsTrue, ◌↔◌}
 use Rattle.std.proofs.lemmas.List.{get_or_default}
-use Rattle.node_table.specs.Table.{Table, IsValid, is_marked}
-use Rattle.node_table.specs.Arrays.{table_of, IsKept}
+use Rattle.node_table.specs.Table.{IsValid, is_marked}
+use Rattle.node_table.specs.Arrays.{table_of}
 use Rattle.node_table.proofs.Standing.{valid_fits, back, forth}
 use Rattle.node_table.proofs.Rounds.{marked_at, set_rounds, set_marked, was_unmarked}
 use Rattle.node_table.proofs.table.NodeTable.mark.Goals as goal

@@ -1,4 +1,4 @@
-use Rattle.std.proofs.Common.{◌≡◌, ℕ, List, length, drop, arith, subst, sym, ◌<◌}
+use Rattle.std.proofs.Common.{◌≡◌, ℕ, List, length, drop, arith, subst, sym}
 use Rattle.std.specs.Prelude.{false}
 use Rattle.node_table.specs.Table.{is_marked}
 use Rattle.node_table.specs.Arrays.{table_of}
