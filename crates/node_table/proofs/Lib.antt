@@ -1,0 +1,15 @@
+pub mod Unfolds
+pub mod Putting
+pub mod Numbers
+pub mod Sharing
+pub mod Making
+pub mod Chaining
+pub mod Writing
+pub mod Keeping
+pub mod Standing
+pub mod Rounds
+pub mod Marking
+pub mod Sweeping
+pub mod Relinking
+pub mod Collecting
+pub mod Keeps
