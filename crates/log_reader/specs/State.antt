@@ -1,0 +1,69 @@
+-- How a reader keeps what it stands for: a buffer, and places in it.
+use Rattle.std.specs.Prelude.{◌≡◌, ◌⊎◌, ℕ, ◌+◌, ◌-◌, ◌<◌, ◌≤◌, [], length, take, drop, Option, Some, None, Result, Ok, Err, Bool, true, false, vec_len, slice_index}
+use Rattle.qtl_syntax.specs.Tree.{Text}
+use Rattle.qtl_truth.specs.declared.event.Event.{Event}
+use Rattle.log_reader.specs.Records.{cut}
+use Rattle.log_reader.specs.Places.{is_in_field, run_on}
+use Rattle.log_reader.specs.Standing.{Reading, left, answer, Goes, Fails}
+use Rattle.log_reader.specs.declared.place.Place.{Place}
+use Rattle.log_reader.specs.declared.scan.Scanned.{Scanned}
+use Rattle.log_reader.specs.declared.fault.LogFault.{LogFault}
+use Rattle.log_reader.specs.declared.fault.LogFault.TheVariants.{NoMemory}
+use Rattle.log_reader.specs.declared.state.State.{State}
+use Rattle.log_reader.specs.declared.state.Turn.{Turn}
+use Rattle.log_reader.specs.declared.state.Turn.TheVariants.{More, Wait, Found}
+
+-- the bytes between two places
+abbrev pub span : ℕ → ℕ → Text → Text
+span from to bytes = take (to - from) (drop from bytes)
+
+-- How far a scan came from a place on: the bytes up to there are the field's, and the next one isn't, where the scan
+-- stopped before its end.
+pub record IsScanned (bytes : Text) (from end : ℕ) (place : Place) (s : Scanned) : Type 0 where
+  pub after : from ≤ s.seen
+  pub within : s.seen ≤ end
+  pub run : run_on (Some place) (span from s.seen bytes) ≡ Some s.place
+  pub stops : s.seen < end → is_in_field s.place (slice_index bytes s.seen) ≡ false
+
+-- the reading that a state keeps
+abbrev pub reading_of : State → Reading
+reading_of s = record {
+  timed = s.timed;
+  ended = s.ended;
+  given = s.given;
+  fault = s.fault;
+  is_begun = s.is_begun;
+  length = s.before + (s.seen - s.from);
+  texts = s.texts;
+  field = span s.from s.seen s.held.items;
+  place = s.place;
+  rest = drop s.seen s.held.items;
+}
+
+-- the places are in order, and the line is short
+pub record IsState (s : State) : Type 0 where
+  pub in_order : s.from ≤ s.seen
+  pub within : s.seen ≤ vec_len s.held
+  pub short : s.before + (s.seen - s.from) ≤ 65536
+  pub untimed : s.timed ≡ false
+
+-- nothing else changes than how far the line is read
+pub record IsSame (s t : State) : Type 0 where
+  pub timed : t.timed ≡ s.timed
+  pub ended : t.ended ≡ s.ended
+  pub fault : t.fault ≡ s.fault
+  pub is_begun : t.is_begun ≡ s.is_begun
+
+-- one event more where one was found
+abbrev pub given_after : ℕ → Result Turn LogFault → ℕ
+given_after given (Ok (Found e)) = given + 1
+given_after given (Ok More) = given
+given_after given (Ok Wait) = given
+given_after given (Err f) = given
+
+-- what a step says of the bytes for which the reading before it stands
+abbrev pub Turned : Text → Reading → Reading → Result Turn LogFault → Type 0
+Turned bytes r t (Ok More) = Goes bytes t
+Turned bytes r t (Ok Wait) = Goes bytes t × (answer (left r.given (cut bytes r.timed r.ended)) ≡ Ok None)
+Turned bytes r t (Ok (Found e)) = Goes bytes t × (answer (left r.given (cut bytes r.timed r.ended)) ≡ Ok (Some e))
+Turned bytes r t (Err f) = ((f ≡ NoMemory) × Goes bytes t) ⊎ Fails bytes t f
