@@ -1,5 +1,6 @@
 pub mod PlaceLemmas
 pub mod Spans
+pub mod TextLemmas
 pub mod RunLemmas
 pub mod LineLemmas
 pub mod StandLemmas

@@ -5,3 +5,4 @@ pub mod Records
 pub mod Places
 pub mod Standing
 pub mod State
+pub mod Quotes

@@ -53,6 +53,7 @@ pub record IsSame (s t : State) : Type 0 where
   pub ended : t.ended ≡ s.ended
   pub fault : t.fault ≡ s.fault
   pub is_begun : t.is_begun ≡ s.is_begun
+  pub held : t.held ≡ s.held
 
 -- one event more where one was found
 abbrev pub given_after : ℕ → Result Turn LogFault → ℕ

@@ -5,5 +5,6 @@ mod fault;
 mod place;
 mod scan;
 mod state;
+mod text;
 
 pub use fault::LogFault;

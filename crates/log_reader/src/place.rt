@@ -1,7 +1,7 @@
 //! Where in a field a byte stands.
 ghost use Rattle.std.specs.Prelude.{◌≡◌};
 ghost use Rattle.log_reader.specs.Fields.{is_blank as is_blank_lem};
-ghost use Rattle.log_reader.specs.Places.{is_between as is_between_lem, place_on};
+ghost use Rattle.log_reader.specs.Places.{is_between as is_between_lem, is_inside as is_inside_lem, place_on};
 
 /// What the bytes of a field so far say of the byte behind them.
 #[derive(Clone, Copy, Debug, PartialEq, Eq)]
@@ -23,6 +23,13 @@ pub fn is_blank(byte: u8) -> bool
     ensures { result ≡ is_blank_lem byte }
 {
     byte == b' ' || byte == b'\t' || byte == b'\r'
+}
+
+/// In quotes.
+pub fn is_inside(place: Place) -> bool
+    ensures { result ≡ is_inside_lem place }
+{
+    place == Place::Inside
 }
 
 /// Neither a comma nor a line feed.
