@@ -1,12 +1,12 @@
 -- A reading before any byte, behind more bytes, at the end of the log, and behind the mark.
 use Rattle.std.proofs.Common.{◌≡◌, ℕ, ◌+◌, ◌<◌, ◌≤◌, List, [], ◌∷◌, ◌++◌, length, map, drop, refl, sym, ap, ◌∙◌, subst, arith, Bool, true, false, append_assoc, append-nil, length-append}
-use Rattle.std.specs.Prelude.{Option, Some, None, Result, Ok, Err, ◌&&◌, not, ◌==◌, nat_le, if◌then◌else◌}
+use Rattle.std.specs.Prelude.{Option, Some, None, Result, Ok, Err, OnOk, ◌&&◌, not, ◌==◌, nat_le, if◌then◌else◌}
 use Rattle.qtl_syntax.specs.Tree.{Text}
 use Rattle.log_reader.specs.Faults.{Fault}
 use Rattle.log_reader.specs.Lines.{lines_from}
 use Rattle.log_reader.specs.Records.{Rest, At, Cut, no_events, cut, cut_in, mark, without_mark}
 use Rattle.log_reader.specs.Places.{place_of}
-use Rattle.log_reader.specs.Standing.{Reading, Fits, IsLater, unmarked, records_from, left, answer, Goes, Fails, StandsIn, Stands, numbered}
+use Rattle.log_reader.specs.Standing.{Reading, Fits, IsLater, unmarked, records_from, left, answer, Goes, Fails, StandsIn, Stands, numbered, with_rest}
 use Rattle.log_reader.specs.declared.place.Place.{Place}
 use Rattle.log_reader.specs.declared.place.Place.TheVariants.{Before, Plain, Inside, AtQuote, Behind}
 use Rattle.log_reader.specs.declared.fault.LogFault.{LogFault}
@@ -77,3 +77,9 @@ module _ (bytes : Text) (r : Reading) where
 -- a fault that stands is the answer
 pub fails_again : (bytes : Text) (r : Reading) (f : LogFault) → Fails bytes r f → answer (left r.given (cut bytes r.timed r.ended)) ≡ Err f
 fails_again bytes r f g = ap answer (now bytes r _ (g.coming [] r.ended (nothing_later r.ended))) ∙ ap (λ x. Err x) g.named
+
+-- a piece that was taken
+pub fed_ok : {T E : Type 0} (result : Result T E) (piece : Text) (r t now : Reading) → r ≡ now → now.ended ≡ false → OnOk result (t ≡ with_rest r (r.rest ++ piece)) →
+    OnOk result ((bytes : Text) → Stands bytes now → Stands (bytes ++ piece) t)
+fed_ok (Ok x) piece r t now is on e = λ bytes s. subst (Stands (bytes ++ piece)) (sym e) (fed bytes piece r (ap (λ q. q.ended) is ∙ on) (subst (Stands bytes) (sym is) s))
+fed_ok (Err x) piece r t now is on e = tt

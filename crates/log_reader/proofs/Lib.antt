@@ -6,3 +6,5 @@ pub mod LineLemmas
 pub mod StandLemmas
 pub mod EndLemmas
 pub mod FeedLemmas
+pub mod StateLemmas
+pub mod MarkLemmas

@@ -2,9 +2,10 @@
 use Rattle.std.proofs.Common.{◌≡◌, ℕ, ◌+◌, ◌<◌, ◌≤◌, List, [], ◌∷◌, ◌++◌, length, refl, sym, ap, ◌∙◌, subst, arith, Bool, true, false, append_assoc, append-nil}
 use Rattle.std.specs.Prelude.{Option, Some, None, if◌then◌else◌}
 use Rattle.qtl_syntax.specs.Tree.{Text}
-use Rattle.log_reader.specs.Places.{next_place, is_in_field, place_on, then_on, run_on}
+use Rattle.log_reader.specs.Places.{place_of, next_place, is_in_field, place_on, then_on, run_on}
 use Rattle.log_reader.specs.Standing.{Reading, Goes}
 use Rattle.log_reader.specs.declared.place.Place.{Place}
+use Rattle.log_reader.proofs.PlaceLemmas.{place_more}
 use Rattle.log_reader.proofs.StandLemmas.{IsAt, goes_in_field}
 
 -- behind one byte more
@@ -35,3 +36,13 @@ goes_run bytes (b ∷ run) r length1 field1 place1 rest1 g started rests runs lo
         Goes bytes (record r { length = length1; field = field1; place = place1; rest = rest1 })
     by_test true e runs k = k e runs
     by_test false e runs k = absurd (run_none run place1 runs)
+
+-- the place behind a field that is longer by these bytes
+pub place_run : (run field : Text) (place : Place) → run_on (Some (place_of field)) run ≡ Some place → place_of (field ++ run) ≡ place
+place_run [] field place e = let s : Some (place_of field) ≡ Some place = e in ap place_of (append-nil field) ∙ (cc)
+place_run (b ∷ run) field place e = by_test (is_in_field (place_of field) b) e (λ later. ap place_of (sym (append_assoc field (b ∷ []) run)) ∙ place_run run (field ++ b ∷ []) place (ap (λ p. run_on (Some p) run) (place_more field b) ∙ later))
+  where
+    by_test : (x : Bool) → run_on (if x then Some (next_place (place_of field) b) else None) run ≡ Some place →
+        (run_on (Some (next_place (place_of field) b)) run ≡ Some place → place_of (field ++ b ∷ run) ≡ place) → place_of (field ++ b ∷ run) ≡ place
+    by_test true f k = k f
+    by_test false f k = absurd (run_none run place f)

@@ -6,3 +6,4 @@ pub mod Places
 pub mod Standing
 pub mod State
 pub mod Quotes
+pub mod Marks

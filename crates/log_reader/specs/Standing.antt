@@ -113,3 +113,32 @@ all_texts r = r.texts ++ text_of r.field ∷ []
 -- the reading behind a line
 abbrev pub behind_line : Reading → ℕ → Text → Reading
 behind_line r given rest = record r { given = given; length = 0; texts = []; field = []; place = Before; rest = rest }
+
+-- a reader that nothing was fed to
+abbrev pub fresh_reading : Bool → Reading
+fresh_reading timed = record { timed = timed; ended = false; given = 0; fault = None; is_begun = false; length = 0; texts = []; field = []; place = Before; rest = [] }
+
+abbrev pub with_rest : Reading → Text → Reading
+with_rest r rest = record r { rest = rest }
+
+-- one event more is given where one came
+abbrev pub given_next : ℕ → Result (Option Event) LogFault → ℕ
+given_next given (Ok (Some e)) = given + 1
+given_next given (Ok None) = given
+given_next given (Err f) = given
+
+-- the fault that stays, if it is one of the log
+abbrev pub lasting : LogFault → Option LogFault
+lasting (QuoteOpen number) = Some (QuoteOpen number)
+lasting (AfterQuote number) = Some (AfterQuote number)
+lasting (RecordTooLong number) = Some (RecordTooLong number)
+lasting (TooManyFields number) = Some (TooManyFields number)
+lasting (EmptyName number) = Some (EmptyName number)
+lasting (BadTime number) = Some (BadTime number)
+lasting (TimeBack number before now) = Some (TimeBack number before now)
+lasting NoMemory = None
+
+-- the answer is the next one of the bytes, and the reading behind it stands for them
+pub record Sought (bytes : Text) (r t : Reading) (result : Result (Option Event) LogFault) : Type 0 where
+  pub next : IsNext bytes r result
+  pub stands : Stands bytes t

@@ -1,4 +1,7 @@
 //! Why a log gives no further event.
+ghost use Rattle.std.specs.Prelude.{◌≡◌};
+ghost use Rattle.log_reader.specs.Standing.{lasting as lasting_lem};
+
 use std::alloc::{AllocError, AllocFailed};
 
 /// Why there is no next event. `number` is that of the faulty record: the number of events before, and 1.
@@ -20,6 +23,16 @@ pub enum LogFault {
     TimeBack { number: u64, before: u64, now: u64 },
     /// The same record can be asked for again.
     NoMemory,
+}
+
+/// The fault, if it is one of the log.
+pub fn lasting(fault: LogFault) -> Option<LogFault>
+    ensures { result ≡ lasting_lem fault }
+{
+    match fault {
+        LogFault::NoMemory => None,
+        _ => Some(fault),
+    }
 }
 
 impl From<AllocError> for LogFault {

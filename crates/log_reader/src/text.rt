@@ -4,6 +4,7 @@ ghost use Rattle.log_reader.specs.Fields.{drop_blanks, trimmed, quoted, text_of}
 ghost use Rattle.log_reader.specs.Places.{place_of, is_inside};
 ghost use Rattle.log_reader.specs.Quotes.{begins_with_quote, closes, is_quote as is_quote_lem, quoted_text as quoted_text_lem};
 
+use crate::buffer::bytes_from;
 use crate::place::{Place, is_blank};
 use qtl_syntax::Text;
 use std::alloc::{AllocError, Global};
@@ -38,14 +39,6 @@ fn trim(bytes: &[u8]) -> &[u8]
 {
     let behind = &bytes[blanks_at_front(bytes)..];
     &behind[..before_blanks(behind)]
-}
-
-/// The bytes from a place on.
-fn bytes_from(bytes: &[u8], from: usize) -> &[u8]
-    requires { from ≤ length bytes.now }
-    ensures { result.now ≡ drop from bytes.now }
-{
-    &bytes[from..]
 }
 
 /// The bytes before a place.
