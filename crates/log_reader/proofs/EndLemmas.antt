@@ -1,19 +1,16 @@
 -- How a reading goes on at the end of a line.
-use Rattle.std.proofs.Common.{◌≡◌, ℕ, ◌+◌, ◌<◌, ◌≤◌, List, [], ◌∷◌, ◌++◌, length, map, drop, refl, sym, ap, ◌∙◌, subst, arith, Bool, true, false, append_assoc, append-nil, length-append}
-use Rattle.std.specs.Prelude.{Option, Some, None, Result, Ok, Err, ◌&&◌, not, ◌==◌, nat_le, if◌then◌else◌}
-use Rattle.std.proofs.lemmas.List.{drop-drop, length-map, map-append}
-use Rattle.std.proofs.lemmas.Bool.Decides.{nat_tests}
+use Rattle.std.proofs.Common.{◌≡◌, ℕ, ◌+◌, List, [], ◌∷◌, ◌++◌, map, drop, refl, sym, ap, ◌∙◌, subst, Bool, true, false, append-nil}
+use Rattle.std.specs.Prelude.{Option, Some, None, Ok, ◌&&◌, not, ◌==◌, if◌then◌else◌}
+use Rattle.std.proofs.lemmas.List.{drop-drop, map-append}
 use Rattle.qtl_syntax.specs.Tree.{Text}
 use Rattle.qtl_truth.specs.declared.event.Event.{Event}
-use Rattle.log_reader.specs.Fields.{Form, Bare, Open, Closed, form_of, is_open, text_of, drop_blanks, quoted}
-use Rattle.log_reader.specs.Lines.{finished, begun, fields, in_quotes, ends_line, Lines, with_line, lines_from}
-use Rattle.log_reader.specs.Faults.{Fault, QuoteOpen, is_empty, first_fault}
-use Rattle.log_reader.specs.Records.{Judged, Nothing, Good, Bad, event_of, is_blank_line, judged_fields, or_judged, judged_line, judged_last, End, Rest, At, Cut, no_events, with_event, cut_last, cut_behind, cut_in, cut}
+use Rattle.log_reader.specs.Fields.{text_of, drop_blanks, quoted}
+use Rattle.log_reader.specs.Lines.{finished, begun, fields, in_quotes, lines_from}
+use Rattle.log_reader.specs.Faults.{Fault, QuoteOpen, is_empty}
+use Rattle.log_reader.specs.Records.{Judged, Nothing, Good, Bad, event_of, is_blank_line, judged_fields, or_judged, judged_last, Rest, At, Cut, no_events, with_event, cut_last, cut_behind, cut_in, cut}
 use Rattle.log_reader.specs.Places.{place_of, place_behind, place_in_quotes, place_behind_blanks, is_inside}
-use Rattle.log_reader.specs.Standing.{Reading, Fits, IsLater, unmarked, records_from, left, answer, answer_at, Goes, is_blank_so_far, all_texts, behind_line}
-use Rattle.log_reader.specs.declared.place.Place.{Place}
-use Rattle.log_reader.specs.declared.place.Place.TheVariants.{Before, Plain, Inside, AtQuote, Behind}
-use Rattle.log_reader.specs.declared.fault.LogFault.{LogFault}
+use Rattle.log_reader.specs.Standing.{Reading, Fits, IsLater, unmarked, left, answer, Goes, is_blank_so_far, all_texts, behind_line}
+use Rattle.log_reader.specs.declared.place.Place.TheVariants.{Plain}
 use Rattle.log_reader.proofs.LineLemmas.{has_none, blank_line}
 use Rattle.log_reader.proofs.StandLemmas.{IsAt, at_byte, agree, is_outside, line_ends}
 

@@ -1,14 +1,11 @@
 -- A reading before any byte, behind more bytes, at the end of the log, and behind the mark.
-use Rattle.std.proofs.Common.{◌≡◌, ℕ, ◌+◌, ◌<◌, ◌≤◌, List, [], ◌∷◌, ◌++◌, length, map, drop, refl, sym, ap, ◌∙◌, subst, arith, Bool, true, false, append_assoc, append-nil, length-append}
-use Rattle.std.specs.Prelude.{Option, Some, None, Result, Ok, Err, OnOk, ◌&&◌, not, ◌==◌, nat_le, if◌then◌else◌}
+use Rattle.std.proofs.Common.{◌≡◌, ◌+◌, [], ◌++◌, refl, sym, ap, ◌∙◌, subst, Bool, true, false, append_assoc}
+use Rattle.std.specs.Prelude.{Option, Some, None, Result, Ok, Err, OnOk}
 use Rattle.qtl_syntax.specs.Tree.{Text}
-use Rattle.log_reader.specs.Faults.{Fault}
 use Rattle.log_reader.specs.Lines.{lines_from}
-use Rattle.log_reader.specs.Records.{Rest, At, Cut, no_events, cut, cut_in, mark, without_mark}
-use Rattle.log_reader.specs.Places.{place_of}
-use Rattle.log_reader.specs.Standing.{Reading, Fits, IsLater, unmarked, records_from, left, answer, Goes, Fails, StandsIn, Stands, numbered, with_rest}
-use Rattle.log_reader.specs.declared.place.Place.{Place}
-use Rattle.log_reader.specs.declared.place.Place.TheVariants.{Before, Plain, Inside, AtQuote, Behind}
+use Rattle.log_reader.specs.Records.{cut, cut_in}
+use Rattle.log_reader.specs.Standing.{Reading, IsLater, unmarked, left, answer, Goes, Fails, StandsIn, Stands, with_rest}
+use Rattle.log_reader.specs.declared.place.Place.TheVariants.{Before}
 use Rattle.log_reader.specs.declared.fault.LogFault.{LogFault}
 use Rattle.log_reader.proofs.EndLemmas.{now, nothing_later}
 

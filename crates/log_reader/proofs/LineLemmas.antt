@@ -1,12 +1,12 @@
 -- How a line goes on by one byte: its fields, its first fault, and the lines behind it.
-use Rattle.std.proofs.Common.{◌≡◌, ℕ, ◌+◌, ◌<◌, ◌≤◌, List, [], ◌∷◌, ◌++◌, length, map, refl, sym, ap, ◌∙◌, subst, arith, Bool, true, false, append_assoc, append-nil, length-append}
-use Rattle.std.specs.Prelude.{Option, Some, None, ◌&&◌, not, ◌==◌, nat_le, if◌then◌else◌}
+use Rattle.std.proofs.Common.{◌≡◌, ℕ, ◌+◌, List, [], ◌∷◌, ◌++◌, refl, sym, ap, ◌∙◌, subst, arith, Bool, true, false, append_assoc, append-nil}
+use Rattle.std.specs.Prelude.{Option, Some, None, ◌&&◌, not, ◌==◌, if◌then◌else◌}
 use Rattle.std.proofs.lemmas.Bool.Decides.{nat_tests}
 use Rattle.qtl_syntax.specs.Tree.{Text}
-use Rattle.log_reader.specs.Fields.{is_blank, drop_blanks, Form, form_of, is_open, text_of}
-use Rattle.log_reader.specs.Lines.{ends_field, finished_from, begun_from, finished, begun, fields, in_quotes, ends_line, Lines, with_line, lines_from}
-use Rattle.log_reader.specs.Faults.{Fault, RecordTooLong, AfterQuote, TooManyFields, is_misplaced, is_empty, fault_at, or_else, first_fault_from, first_fault}
-use Rattle.log_reader.specs.Records.{Judged, Nothing, Good, Bad, judged_fields, or_judged, judged_line, judged_last, Rest, At, Cut, no_events, with_event, cut_last, cut_behind, cut_lines, cut_in, is_blank_line}
+use Rattle.log_reader.specs.Fields.{is_blank, drop_blanks, form_of, is_open}
+use Rattle.log_reader.specs.Lines.{ends_field, finished_from, begun_from, finished, begun, ends_line, with_line, lines_from}
+use Rattle.log_reader.specs.Faults.{Fault, is_empty, fault_at, or_else, first_fault_from, first_fault}
+use Rattle.log_reader.specs.Records.{judged_fields, or_judged, At, no_events, cut_behind, cut_in, is_blank_line}
 
 -- a byte that ends the field begun
 pub finished_ends : (field line : Text) (b : ℕ) → ends_field (begun_from field line) b ≡ true → finished_from field (line ++ b ∷ []) ≡ finished_from field line ++ begun_from field line ∷ []

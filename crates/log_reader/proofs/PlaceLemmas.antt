@@ -1,11 +1,10 @@
 -- How the place in a field goes on by one byte.
-use Rattle.std.proofs.Common.{◌≡◌, ℕ, List, [], ◌∷◌, ◌++◌, refl, sym, ap, ◌∙◌, subst, arith, Bool, true, false}
+use Rattle.std.proofs.Common.{◌≡◌, ℕ, [], ◌∷◌, ◌++◌, refl, sym, ap, ◌∙◌, arith, Bool, true, false}
 use Rattle.std.specs.Prelude.{Option, Some, None, ◌&&◌, not, ◌==◌, if◌then◌else◌}
 use Rattle.std.proofs.lemmas.Bool.Decides.{nat_tests}
 use Rattle.qtl_syntax.specs.Tree.{Text}
-use Rattle.log_reader.specs.Fields.{is_blank, drop_blanks, with_byte, quoted, quoted_form, Form, Bare, Open, Closed, form_behind_blanks, form_of, is_open}
-use Rattle.log_reader.specs.Faults.{is_misplaced, is_empty}
-use Rattle.log_reader.specs.Lines.{ends_field}
+use Rattle.log_reader.specs.Fields.{is_blank, drop_blanks, with_byte, quoted, quoted_form, Form, Bare, Closed, form_behind_blanks, form_of, is_open}
+use Rattle.log_reader.specs.Faults.{is_misplaced}
 use Rattle.log_reader.specs.Places.{place_in_quotes, place_behind, place_behind_blanks, place_of, next_place, is_inside, is_in_field}
 use Rattle.log_reader.specs.declared.place.Place.{Place}
 use Rattle.log_reader.specs.declared.place.Place.TheVariants.{Before, Plain, Inside, AtQuote, Behind}

@@ -1,12 +1,14 @@
 -- A reading behind some bytes of the field.
-use Rattle.std.proofs.Common.{◌≡◌, ℕ, ◌+◌, ◌<◌, ◌≤◌, List, [], ◌∷◌, ◌++◌, length, refl, sym, ap, ◌∙◌, subst, arith, Bool, true, false, append_assoc, append-nil}
+use Rattle.std.proofs.Common.{◌≡◌, ℕ, ◌+◌, ◌<◌, ◌≤◌, get_or, [], ◌∷◌, ◌++◌, length, refl, sym, ap, ◌∙◌, subst, arith, Bool, true, false, append_assoc, append-nil}
 use Rattle.std.specs.Prelude.{Option, Some, None, if◌then◌else◌}
 use Rattle.qtl_syntax.specs.Tree.{Text}
 use Rattle.log_reader.specs.Places.{place_of, next_place, is_in_field, place_on, then_on, run_on}
+use Rattle.log_reader.specs.State.{span}
 use Rattle.log_reader.specs.Standing.{Reading, Goes}
 use Rattle.log_reader.specs.declared.place.Place.{Place}
 use Rattle.log_reader.proofs.PlaceLemmas.{place_more}
-use Rattle.log_reader.proofs.StandLemmas.{IsAt, goes_in_field}
+use Rattle.log_reader.proofs.Spans.{span_more}
+use Rattle.log_reader.proofs.StandLemmas.{goes_in_field}
 
 -- behind one byte more
 pub run_more : (bytes : Text) (b : ℕ) (o : Option Place) → run_on o (bytes ++ b ∷ []) ≡ then_on (run_on o bytes) b
@@ -46,3 +48,12 @@ place_run (b ∷ run) field place e = by_test (is_in_field (place_of field) b) e
         (run_on (Some (next_place (place_of field) b)) run ≡ Some place → place_of (field ++ b ∷ run) ≡ place) → place_of (field ++ b ∷ run) ≡ place
     by_test true f k = k f
     by_test false f k = absurd (run_none run place f)
+
+-- a scan that is one byte further
+pub span_run : (bytes : Text) (from i : ℕ) (first place next : Place) → from ≤ i → i < length bytes → run_on (Some first) (span from i bytes) ≡ Some place → place_on place (get_or bytes i 0) ≡ Some next →
+    run_on (Some first) (span from (i + 1) bytes) ≡ Some next
+span_run bytes from i first place next h k run on =
+    ap (run_on (Some first)) (span_more from i bytes h k)
+    ∙ run_more (span from i bytes) (get_or bytes i 0) (Some first)
+    ∙ ap (λ o. then_on o (get_or bytes i 0)) run
+    ∙ on

@@ -1,19 +1,18 @@
 -- How a reading goes on: each step stands for the same bytes.
-use Rattle.std.proofs.Common.{◌≡◌, ℕ, ◌+◌, ◌<◌, ◌≤◌, List, [], ◌∷◌, ◌++◌, length, map, refl, sym, ap, ◌∙◌, subst, arith, Bool, true, false, append_assoc, append-nil, length-append}
+use Rattle.std.proofs.Common.{◌≡◌, ℕ, ◌+◌, ◌<◌, ◌≤◌, [], ◌∷◌, ◌++◌, length, map, refl, sym, ap, ◌∙◌, subst, arith, Bool, true, false, length-append}
 use Rattle.std.proofs.lemmas.List.{length-map, map-append}
-use Rattle.std.specs.Prelude.{Option, Some, None, ◌&&◌, not, ◌==◌, nat_le, if◌then◌else◌}
+use Rattle.std.specs.Prelude.{Some, None, ◌&&◌, not, ◌==◌, nat_le}
 use Rattle.std.proofs.lemmas.Bool.Decides.{nat_tests}
 use Rattle.qtl_syntax.specs.Tree.{Text}
 use Rattle.log_reader.specs.Fields.{Form, Bare, Open, Closed, form_of, is_open, text_of}
-use Rattle.log_reader.specs.Lines.{ends_field, finished, begun, fields, in_quotes, ends_line, with_line, lines_from}
-use Rattle.log_reader.specs.Faults.{Fault, RecordTooLong, AfterQuote, TooManyFields, is_misplaced, fault_at, first_fault}
-use Rattle.log_reader.specs.Records.{Cut, no_events, At, cut, cut_in}
-use Rattle.log_reader.specs.Places.{place_of, next_place, is_inside, is_in_field, place_on, run_on}
+use Rattle.log_reader.specs.Lines.{ends_field, finished, begun, ends_line, with_line, lines_from}
+use Rattle.log_reader.specs.Faults.{Fault, RecordTooLong, AfterQuote, TooManyFields, is_misplaced, fault_at}
+use Rattle.log_reader.specs.Records.{no_events, At, cut, cut_in}
+use Rattle.log_reader.specs.Places.{place_of, next_place, is_inside, is_in_field}
 use Rattle.log_reader.specs.Standing.{Reading, Fits, IsLater, unmarked, records_from, left, Goes}
-use Rattle.log_reader.specs.declared.place.Place.{Place}
-use Rattle.log_reader.specs.declared.place.Place.TheVariants.{Before, Plain, Inside, AtQuote, Behind}
-use Rattle.log_reader.proofs.PlaceLemmas.{Agrees, agrees, place_more, in_field, out_of_field}
-use Rattle.log_reader.proofs.LineLemmas.{finished_ends, begun_ends, finished_same, begun_more, fault_more, fault_ends, blank_line}
+use Rattle.log_reader.specs.declared.place.Place.TheVariants.{Before}
+use Rattle.log_reader.proofs.PlaceLemmas.{Agrees, agrees, place_more, in_field}
+use Rattle.log_reader.proofs.LineLemmas.{finished_ends, begun_ends, finished_same, begun_more, fault_more, fault_ends}
 
 -- tests of a byte outside or inside quotes
 outside : (quotes x : Bool) → (quotes ≡ false → x ≡ false) → (x && not quotes) ≡ false

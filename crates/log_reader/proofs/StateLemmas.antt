@@ -1,16 +1,16 @@
 -- How a state goes on: each step is that of its reading.
-use Rattle.std.proofs.Common.{◌≡◌, ℕ, ◌+◌, ◌-◌, ◌^◌, ◌<◌, ◌≤◌, List, [], ◌∷◌, ◌++◌, length, take, drop, get_or, refl, sym, ap, ◌∙◌, subst, arith, Bool, true, false, ◌⊎◌, inl, inr}
+use Rattle.std.proofs.Common.{◌≡◌, ℕ, ◌+◌, ◌-◌, ◌<◌, ◌≤◌, List, [], ◌∷◌, ◌++◌, length, take, drop, get_or, refl, sym, ap, ◌∙◌, subst, arith, Bool, true, false, inl, inr}
 use Rattle.std.specs.Prelude.{Option, Some, None, Result, Ok, Err, ◌&&◌, not, ◌==◌, vec_len}
 use Rattle.std.proofs.lemmas.Bool.Decides.{nat_tests}
 use Rattle.std.proofs.lemmas.List.{drop_all, drop-drop}
 use Rattle.qtl_syntax.specs.Tree.{Text}
 use Rattle.qtl_truth.specs.declared.event.Event.{Event}
-use Rattle.log_reader.specs.Lines.{ends_line, in_quotes}
+use Rattle.log_reader.specs.Lines.{ends_line}
 use Rattle.log_reader.specs.Faults as fault
-use Rattle.log_reader.specs.Records.{cut, no_events, At, event_of, Good, Bad}
+use Rattle.log_reader.specs.Records.{cut, no_events, At}
 use Rattle.log_reader.specs.Places.{is_inside, is_in_field, place_of}
-use Rattle.log_reader.specs.Standing.{Reading, numbered, IsLater, left, answer, Goes, Fails, StandsIn, all_texts, behind_line, is_blank_so_far, lasting, IsNext, Sought, Stands}
-use Rattle.log_reader.specs.State.{span, reading_of, IsState, IsSame, IsAtByte, behind_field, IsMade, IsNotMade, Turned}
+use Rattle.log_reader.specs.Standing.{Reading, numbered, IsLater, left, answer, Goes, Fails, StandsIn, all_texts, behind_line, is_blank_so_far, given_next, lasting, IsNext, Sought, Stands}
+use Rattle.log_reader.specs.State.{span, reading_of, IsState, IsSame, behind_field, IsMade, IsNotMade, Turned}
 use Rattle.log_reader.specs.declared.place.Place.{Place}
 use Rattle.log_reader.specs.declared.place.Place.TheVariants.{Before, Plain, Inside, AtQuote, Behind}
 use Rattle.log_reader.specs.declared.fault.LogFault.{LogFault}
@@ -249,3 +249,9 @@ sought_as bytes r q t result a b c s = record { next = by_next s.next; stands = 
 
 pub sought_again : (bytes : Text) (r : Reading) (f : LogFault) → r.fault ≡ Some f → Stands bytes r → Sought bytes r r (Err f)
 sought_again bytes r f e s = record { next = inr (sym (fails_again bytes r f (subst (StandsIn bytes r) e s))); stands = s }
+
+-- one event more at most
+pub given_most : (given : ℕ) (result : Result (Option Event) LogFault) → given_next given result ≤ given + 1
+given_most given (Ok (Some e)) = omega arith
+given_most given (Ok None) = omega arith
+given_most given (Err f) = omega arith

@@ -1,11 +1,11 @@
 -- How the text of a field is read off its bytes.
-use Rattle.std.proofs.Common.{◌≡◌, ℕ, ◌+◌, ◌-◌, ◌<◌, ◌≤◌, List, [], ◌∷◌, ◌++◌, length, take, drop, get_or, refl, sym, ap, ◌∙◌, subst, arith, Bool, true, false, append_assoc, append-nil, take-append-drop, length-drop, suc, ◌⊎◌, inl, inr}
+use Rattle.std.proofs.Common.{◌≡◌, ℕ, ◌+◌, ◌<◌, ◌≤◌, [], ◌∷◌, ◌++◌, length, take, drop, get_or, refl, sym, ap, ◌∙◌, subst, arith, Bool, true, false, append_assoc, append-nil, take-append-drop, length-drop, suc, ◌⊎◌, inl, inr}
 use Rattle.std.proofs.lemmas.List.{drop-drop, take_all, drop_all}
 use Rattle.std.proofs.lemmas.Bool.{cases_lt}
-use Rattle.std.specs.Prelude.{Option, Some, None, reverse, All, IsSome, ◌&&◌, not, ◌==◌, if◌then◌else◌}
+use Rattle.std.specs.Prelude.{Option, Some, None, All, IsSome, ◌&&◌, not, ◌==◌, if◌then◌else◌}
 use Rattle.std.proofs.lemmas.Bool.Decides.{nat_tests}
 use Rattle.qtl_syntax.specs.Tree.{Text}
-use Rattle.log_reader.specs.Fields.{is_blank, drop_blanks, trimmed, with_byte, quoted, quoted_form, Form, Bare, Open, Closed, form_behind_blanks, form_of, text_in, text_of}
+use Rattle.log_reader.specs.Fields.{drop_blanks, trimmed, with_byte, quoted, quoted_form, Bare, form_behind_blanks, text_in}
 use Rattle.log_reader.specs.Quotes.{is_quote, begins_with_quote, closes, quoted_text, with_text}
 use Rattle.log_reader.specs.Places.{place_in_quotes, place_behind, place_behind_blanks, place_of, is_inside}
 use Rattle.log_reader.specs.declared.place.Place.{Place}

@@ -1,5 +1,5 @@
 -- The faults of a line that have a place: each is said of one byte and the bytes of the line before it.
-use Rattle.std.specs.Prelude.{ℕ, List, [], ◌∷◌, ◌++◌, length, Option, Some, None, Bool, true, false, ◌&&◌, not, ◌==◌, nat_le, if◌then◌else◌}
+use Rattle.std.specs.Prelude.{ℕ, [], ◌∷◌, ◌++◌, length, Option, Some, None, Bool, true, false, ◌&&◌, not, ◌==◌, nat_le, if◌then◌else◌}
 use Rattle.qtl_syntax.specs.Tree.{Text}
 use Rattle.log_reader.specs.Fields.{is_blank, Form, Bare, Open, Closed, form_of}
 use Rattle.log_reader.specs.Lines.{ends_field, finished, begun}

@@ -1,5 +1,5 @@
 -- What a field of a record is: its bytes, as they stand between commas, and the text that they spell.
-use Rattle.std.specs.Prelude.{ℕ, List, [], ◌∷◌, Option, Some, None, Bool, true, false, ◌||◌, ◌==◌, if◌then◌else◌, reverse}
+use Rattle.std.specs.Prelude.{ℕ, [], ◌∷◌, Option, Some, None, Bool, true, false, ◌||◌, ◌==◌, if◌then◌else◌, reverse}
 use Rattle.qtl_syntax.specs.Tree.{Text}
 
 -- space, tab and carriage return

@@ -30,13 +30,7 @@ pub fn mark_length(bytes: &[u8], are_all: bool) -> Option<usize>
 {
     match mark_of(bytes) {
         Mark::Whole => Some(3),
-        Mark::Begun => {
-            if are_all {
-                Some(0)
-            } else {
-                None
-            }
-        }
+        Mark::Begun => { if are_all { Some(0) } else { None } }
         Mark::Missing => Some(0),
     }
 }

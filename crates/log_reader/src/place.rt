@@ -1,5 +1,5 @@
 //! Where in a field a byte stands.
-ghost use Rattle.std.specs.Prelude.{◌≡◌};
+ghost use Rattle.std.specs.Prelude.{◌≡◌, Some, IsTrue};
 ghost use Rattle.log_reader.specs.Fields.{is_blank as is_blank_lem};
 ghost use Rattle.log_reader.specs.Places.{is_between as is_between_lem, is_inside as is_inside_lem, place_on};
 
@@ -53,6 +53,24 @@ fn place_before(byte: u8) -> Option<Place>
     }
 }
 
+fn place_inside(byte: u8) -> Place
+    ensures { Some result ≡ place_on Place.Inside byte }
+{
+    if byte == b'"' {
+        Place::AtQuote
+    } else {
+        Place::Inside
+    }
+}
+
+/// Without quotes, and the byte stands behind the comma up to ~ as letters and digits do: the field goes on. Nearly all
+/// bytes of a log are told so.
+pub fn is_usual(place: Place, byte: u8) -> bool
+    ensures { IsTrue result → place_on place byte ≡ Some place }
+{
+    place == Place::Plain && b',' < byte && byte <= b'~'
+}
+
 /// The place behind a byte, or none where the byte is not the field's.
 pub fn place_after(place: Place, byte: u8) -> Option<Place>
     ensures { result ≡ place_on place byte }
@@ -66,13 +84,7 @@ pub fn place_after(place: Place, byte: u8) -> Option<Place>
                 None
             }
         }
-        Place::Inside => {
-            if byte == b'"' {
-                Some(Place::AtQuote)
-            } else {
-                Some(Place::Inside)
-            }
-        }
+        Place::Inside => Some(place_inside(byte)),
         Place::AtQuote => {
             if byte == b'"' {
                 Some(Place::Inside)

@@ -1,5 +1,5 @@
 //! The reader of a log's records.
-ghost use Rattle.std.specs.Prelude.{◌≡◌, ◌≢◌, ◌+◌, ◌^◌, ◌<◌, [], ◌++◌, Bool, true, false, None, Some, Ok, Err, IfOk, OnOk, OnErr, IfErr};
+ghost use Rattle.std.specs.Prelude.{◌≡◌, ◌≢◌, ◌+◌, ◌^◌, ◌<◌, ◌≤◌, [], ◌++◌, Bool, true, false, None, Some, Ok, Err, IfOk, OnOk, OnErr, IfErr};
 ghost use Rattle.qtl_syntax.specs.Tree as tree;
 ghost use Rattle.log_reader.specs.declared.fault.LogFault as declared;
 ghost use Rattle.log_reader.specs.Standing.{Stands, IsNext, fresh_reading, with_rest, given_next};
@@ -62,6 +62,8 @@ impl LogReader {
         ensures fed { OnOk result (self.new ≡ with_rest self.old (self.old.rest ++ piece.now)) }
         ensures stands { OnOk result ((bytes : tree.Text) → Stands bytes self.old → Stands (bytes ++ piece.now) self.new) }
         ensures kept { OnErr result (self.new ≡ self.old) }
+        ensures ended { self.new.ended ≡ self.old.ended }
+        ensures given { self.new.given ≡ self.old.given }
     {
         self.state.feed(piece)
     }
@@ -82,6 +84,7 @@ impl LogReader {
         ensures answer { (bytes : tree.Text) → Stands bytes self.old → IsNext bytes self.old result }
         ensures stands { (bytes : tree.Text) → Stands bytes self.old → Stands bytes self.new }
         ensures given { self.new.given ≡ given_next self.old.given result }
+        ensures most { self.new.given ≤ self.old.given + 1 }
         ensures ended { self.new.ended ≡ self.old.ended }
         ensures fault { IfErr result (λ f. f ≢ LogFault.NoMemory → self.new.fault ≡ Some f) }
         ensures again { (f : declared.LogFault) → self.old.fault ≡ Some f → (result ≡ Err f) × (self.new ≡ self.old) }

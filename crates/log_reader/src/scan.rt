@@ -2,7 +2,7 @@
 ghost use Rattle.std.specs.Prelude.{◌≤◌, length};
 ghost use Rattle.log_reader.specs.State.{IsScanned};
 
-use crate::place::{Place, place_after};
+use crate::place::{Place, is_usual, place_after};
 
 /// How far the field goes, and the place there.
 #[derive(Clone, Copy, Debug, PartialEq, Eq)]
@@ -19,6 +19,9 @@ pub fn scan(bytes: &[u8], from: usize, end: usize, place: Place) -> Scanned
 {
     let mut place = place;
     for i in from..end {
+        if is_usual(place, bytes[i]) {
+            continue;
+        }
         let Some(next) = place_after(place, bytes[i]) else {
             return Scanned { seen: i, place };
         };

@@ -335,6 +335,8 @@ impl State {
         requires sound { IsState self.old }
         ensures sound { IsState self.new }
         ensures same { reading_of self.new ≡ reading_of self.old }
+        ensures ended { self.new.ended ≡ self.old.ended }
+        ensures given { self.new.given ≡ self.old.given }
     {
         if self.from < self.held.len() - self.from {
             return;
@@ -348,6 +350,8 @@ impl State {
     pub fn feed(&mut self, piece: &[u8]) -> Result<(), AllocError>
         requires sound { IsState self.old }
         ensures sound { IsState self.new }
+        ensures ended { self.new.ended ≡ self.old.ended }
+        ensures given { self.new.given ≡ self.old.given }
         ensures ok { OnOk result (reading_of self.new ≡ with_rest (reading_of self.old) ((reading_of self.old).rest ++ piece.now)) }
         ensures err { OnErr result (reading_of self.new ≡ reading_of self.old) }
     {

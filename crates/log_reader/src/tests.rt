@@ -90,12 +90,10 @@ fn drain(feeder: &mut Feeder, out: &mut Vec<u8>) -> Result<bool, AllocError> {
 }
 
 /// Reads a log in pieces of this size, and writes its events, and then its fault, or a point at its end.
-fn read_in(alloc: Global, log: &[u8], size: usize) -> Result<Vec<u8>, AllocError>
-    requires { 1 ≤ size }
-{
+fn read_in(alloc: Global, log: &[u8], size: usize) -> Result<Vec<u8>, AllocError> {
     let mut out = Vec::new(alloc);
     let mut feeder = Feeder::open(alloc)?;
-    for piece in log.chunks(size) {
+    for piece in log.chunks(size.max(1)) {
         feeder.feed(piece)?;
         if !drain(&mut feeder, &mut out)? {
             return Ok(out);
@@ -254,7 +252,11 @@ fn limits_of_lines_and_fields(rt: HostRuntime) -> Result<(), Fail> {
         let log = long_log(alloc, front, fill, count, behind)?;
         for size in [1, 4096, 100_000] {
             let found = read_in(alloc, log.as_slice(), size)?;
-            assert_eq!(rt; last_part(found.as_slice()), end, "{count} bytes, in pieces of {size}");
+            assert_eq!(rt;
+                last_part(found.as_slice()),
+                end,
+                "{count} bytes, in pieces of {size}"
+            );
         }
     }
     Ok(())

@@ -1,21 +1,21 @@
-use Rattle.std.proofs.Common.{◌∙◌, sym, ap, get_or, arith}
-use Rattle.std.specs.Prelude.{Some}
-use Rattle.log_reader.specs.Places.{run_on, then_on}
-use Rattle.log_reader.specs.State.{span}
-use Rattle.log_reader.proofs.Spans.{span_more}
-use Rattle.log_reader.proofs.RunLemmas.{run_more}
+use Rattle.std.proofs.Common.{◌≤◌, ◌∙◌, sym, ap, length, arith}
+use Rattle.log_reader.proofs.RunLemmas.{span_run}
 use Rattle.log_reader.proofs.scan.scan.Goals as goal
+
+pub loop-i-preserved-then-is_usual : goal.loop-i-preserved-then-is_usual
+loop-i-preserved-then-is_usual c =
+    let i = c.loop-i.invariant in
+    let within = c.loop-i-test.true in
+    record {
+      after = let a = i.after in omega arith;
+      run = span_run c.args.bytes.now c.args.from c.loop-i.i c.args.place c.loop-i.place c.loop-i.place i.after (omega arith) i.run (c.is_usual.ensures c.if-is_usual.true);
+    }
 
 pub loop-i-preserved : goal.loop-i-preserved
 loop-i-preserved c =
-    let b = get_or c.args.bytes.now c.loop-i.i 0 in
+    let i = c.loop-i.invariant in
     let within = c.loop-i-test.true in
     record {
-      after = omega arith;
-      run =
-          ap (run_on (Some c.args.place)) (span_more c.args.from c.loop-i.i c.args.bytes.now c.loop-i.invariant.after (omega arith))
-          ∙ run_more (span c.args.from c.loop-i.i c.args.bytes.now) b (Some c.args.place)
-          ∙ ap (λ o. then_on o b) c.loop-i.invariant.run
-          ∙ sym c.place_after.ensures
-          ∙ c.in-Some.is;
+      after = let a = i.after in omega arith;
+      run = span_run c.args.bytes.now c.args.from c.loop-i.i c.args.place c.loop-i.place c.in-Some.next i.after (omega arith) i.run (sym c.place_after.ensures ∙ c.in-Some.is);
     }

@@ -1,4 +1,4 @@
-use Rattle.std.proofs.Common.{◌≡◌, ◌≤◌, ◌-◌, take, length}
+use Rattle.std.proofs.Common.{◌≡◌, ◌≤◌, take, length}
 use Rattle.std.specs.Prelude.{reverse}
 use Rattle.log_reader.specs.Fields.{drop_blanks}
 use Rattle.log_reader.proofs.text.before_blanks.Given as goal

@@ -1,4 +1,4 @@
-use Rattle.std.proofs.Common.{◌≡◌, arith}
+use Rattle.std.proofs.Common.{◌≡◌}
 use Rattle.std.specs.Prelude.{false}
 use Rattle.std.proofs.lemmas.List.Elements.{All-more}
 use Rattle.log_reader.specs.Quotes.{is_quote}

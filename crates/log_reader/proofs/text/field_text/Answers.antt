@@ -1,4 +1,4 @@
-use Rattle.std.proofs.Common.{◌≡◌, ◌∙◌, ap, sym, subst, arith}
+use Rattle.std.proofs.Common.{◌≡◌, ◌∙◌, ap, sym, subst}
 use Rattle.std.specs.Prelude.{IfOk, IsSome}
 use Rattle.log_reader.specs.Fields.{drop_blanks, quoted}
 use Rattle.log_reader.specs.Quotes.{quoted_text}

@@ -1,4 +1,4 @@
-use Rattle.std.proofs.Common.{◌≡◌, ◌∙◌, ap, sym, subst, arith}
+use Rattle.std.proofs.Common.{◌≡◌, ◌∙◌, sym, subst}
 use Rattle.std.specs.Prelude.{IfOk}
 use Rattle.log_reader.proofs.TextLemmas.{quoted_at}
 use Rattle.log_reader.proofs.text.quoted_text.Goals as goal

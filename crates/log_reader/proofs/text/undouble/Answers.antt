@@ -1,7 +1,5 @@
-use Rattle.std.proofs.Common.{◌≡◌, ◌∙◌, ◌+◌, ap, sym, drop, get_or, arith}
-use Rattle.log_reader.specs.Fields.{quoted}
-use Rattle.log_reader.specs.Quotes.{with_text}
-use Rattle.log_reader.proofs.TextLemmas.{text_more_at, text_ends, text_never}
+use Rattle.std.proofs.Common.{◌∙◌, sym}
+use Rattle.log_reader.proofs.TextLemmas.{text_more_at, text_ends}
 use Rattle.log_reader.proofs.text.undouble.Goals as goal
 
 pub returns-then-is_closing : goal.returns-then-is_closing

@@ -1,4 +1,4 @@
-use Rattle.std.proofs.Common.{◌≡◌, ◌≤◌, ◌-◌, ◌+◌, drop, length}
+use Rattle.std.proofs.Common.{◌≡◌, ◌-◌, drop, length}
 use Rattle.log_reader.specs.Fields.{quoted}
 use Rattle.log_reader.specs.Quotes.{with_text}
 use Rattle.log_reader.proofs.text.undouble.Given as goal

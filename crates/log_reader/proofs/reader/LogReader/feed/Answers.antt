@@ -1,5 +1,3 @@
-use Rattle.std.proofs.Common.{◌≡◌, ◌∙◌, ◌++◌, ap, sym, subst}
-use Rattle.log_reader.specs.Standing.{Stands}
 use Rattle.log_reader.specs.State.{reading_of}
 use Rattle.log_reader.proofs.FeedLemmas.{fed_ok}
 use Rattle.log_reader.proofs.reader.LogReader.feed.Goals as goal
