@@ -1,4 +1,4 @@
-use Rattle.std.proofs.Common.{◌≤◌, ◌∙◌, sym, ap, length, arith}
+use Rattle.std.proofs.Common.{◌∙◌, sym, arith}
 use Rattle.log_reader.proofs.RunLemmas.{span_run}
 use Rattle.log_reader.proofs.scan.scan.Goals as goal
 
