@@ -5,6 +5,7 @@ use Rattle.qtl_truth.specs.declared.numbered_atom.Atom as rust_atom
 use Rattle.wellformed.specs.declared.core_formula.CoreFormula as rust
 use Rattle.wellformed.specs.declared.core_formula.CoreFormula.TheVariants as code
 
+-- a formula without macros, whose variables are numbers
 pub data CoreFormula : Type 0 where
   True : CoreFormula
   False : CoreFormula

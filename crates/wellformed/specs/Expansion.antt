@@ -7,6 +7,7 @@ use Rattle.qtl_syntax.specs.Tree as surface
 use Rattle.qtl_syntax.specs.Tree.{Text, Formula, Item, Pred, Prop}
 use Rattle.qtl_truth.specs.declared.numbered_atom.AtomTerm.{AtomTerm}
 use Rattle.qtl_truth.specs.declared.numbered_atom.AtomTerm.TheVariants as number
+use Rattle.wellformed.specs.declared.core_formula.Variable.{Variable}
 use Rattle.wellformed.specs.CoreTree.{CoreFormula, True, False, Atom, Not, And, Or, Implies, Iff, Prev, Since, TimedSince, Once, TimedOnce, Always, TimedAlways, Interval, Exists, Forall}
 
 -- how many quantifiers a formula has after expansion, where count tells how many a call brings
@@ -30,13 +31,14 @@ quantifiers_in count (surface.Interval f g) = quantifiers_in count f + quantifie
 quantifiers_in count (surface.Exists x f) = 1 + quantifiers_in count f
 quantifiers_in count (surface.Forall x f) = 1 + quantifiers_in count f
 
--- how many the body of the macro of this name has, if a macro has it
+-- how many quantifiers the body of the macro of this name has, if a macro has it
 abbrev pub call_quantifiers : List Item → Text → ℕ
 call_quantifiers [] name = 0
 call_quantifiers (Prop p body ∷ before) name = call_quantifiers before name
 call_quantifiers (Pred p params body ∷ before) name =
     if bytes_eq p name then quantifiers_in (call_quantifiers before) body else call_quantifiers before name
 
+-- how many quantifiers a formula has after expansion under the items before it
 abbrev pub quantifiers : List Item → Formula → ℕ
 quantifiers before f = quantifiers_in (call_quantifiers before) f
 
@@ -61,11 +63,13 @@ names_in called_names (surface.Interval f g) = names_in called_names f ++ names_
 names_in called_names (surface.Exists x f) = x ∷ names_in called_names f
 names_in called_names (surface.Forall x f) = x ∷ names_in called_names f
 
+-- the names of the quantifiers of the macro of this name, if a macro has it
 abbrev pub call_names : List Item → Text → List Text
 call_names [] name = []
 call_names (Prop p body ∷ before) name = call_names before name
 call_names (Pred p params body ∷ before) name = if bytes_eq p name then names_in (call_names before) body else call_names before name
 
+-- the names of the quantifiers of a formula after expansion under the items before it
 abbrev pub quantifier_names : List Item → Formula → List Text
 quantifier_names before f = names_in (call_names before) f
 
@@ -90,11 +94,13 @@ size_in sizes (surface.Interval f g) = 1 + (size_in sizes f + size_in sizes g)
 size_in sizes (surface.Exists x f) = 1 + size_in sizes f
 size_in sizes (surface.Forall x f) = 1 + size_in sizes f
 
+-- the expanded size of the body of the macro of this name, if a macro has it
 abbrev pub call_size : List Item → Text → ℕ
 call_size [] name = 0
 call_size (Prop p body ∷ before) name = call_size before name
 call_size (Pred p params body ∷ before) name = if bytes_eq p name then size_in (call_size before) body else call_size before name
 
+-- the expanded size of a formula under the items before it
 abbrev pub size : List Item → Formula → ℕ
 size before f = size_in (call_size before) f
 
@@ -107,6 +113,7 @@ abbrev pub meant : Names → Text → AtomTerm
 meant [] x = number.Constant x
 meant ((y, t) ∷ names) x = if bytes_eq y x then t else meant names x
 
+-- a term whose variable is a number, or the term of the call where it is a parameter
 abbrev pub numbered_term : Names → Term → AtomTerm
 numbered_term names (term.Variable x) = meant names x
 numbered_term names (term.Constant t) = number.Constant t
@@ -206,3 +213,14 @@ abbrev pub props_quantifiers : List Item → List Item → ℕ
 props_quantifiers before [] = 0
 props_quantifiers before (Pred p params body ∷ items) = props_quantifiers (Pred p params body ∷ before) items
 props_quantifiers before (Prop name body ∷ items) = quantifiers before body + props_quantifiers (Prop name body ∷ before) items
+
+-- the variables of quantifiers with these names, which stand in the property of this number
+abbrev pub variables_named : ℕ → List Text → List Variable
+variables_named property names = map (λ x. record { name = x; property = property }) names
+
+-- the variables of the properties of items, in order of the text, where the first property has the number p
+abbrev pub props_variables : List Item → ℕ → List Item → List Variable
+props_variables before p [] = []
+props_variables before p (Pred name params body ∷ items) = props_variables (Pred name params body ∷ before) p items
+props_variables before p (Prop name body ∷ items) =
+    variables_named p (quantifier_names before body) ++ props_variables (Prop name body ∷ before) (p + 1) items

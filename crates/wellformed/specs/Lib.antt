@@ -1,0 +1,9 @@
+pub mod Clash
+pub mod CoreTree
+pub mod CoreTruth
+pub mod Expansion
+pub mod Faults
+pub mod Kept
+pub mod Macros
+pub mod Sound
+pub mod Walk

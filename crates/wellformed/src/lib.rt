@@ -1,0 +1,14 @@
+//! Specifications whose names make sense, and what they are without macros: one variable for each quantifier.
+#![tactic(auto)]
+
+mod clash;
+mod core_formula;
+mod core_spec;
+mod duplicates;
+mod fault;
+mod macros;
+mod walk;
+
+pub use core_formula::{CoreFormula, CoreProp, Variable};
+pub use core_spec::Core;
+pub use fault::NameFault;
