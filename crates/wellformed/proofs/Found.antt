@@ -15,11 +15,12 @@ before_more items item =
     rw (m, reverse-append (map item_of items) (item_of item ∷ [])) refl
 
 -- one item more
+pub take_at : (items : List rust_item.Item) (m : ℕ) (item : rust_item.Item) → m < length items → item ≡ get_or items m item → take (m + 1) items ≡ take m items ++ item ∷ []
+take_at items m item l is = take_more items m item l ∙ ap (λ (x : rust_item.Item). take m items ++ x ∷ []) (sym is)
+
 pub before_take : (items : List rust_item.Item) (m : ℕ) (item : rust_item.Item) → m < length items → item ≡ get_or items m item →
     before_of (take (m + 1) items) ≡ item_of item ∷ before_of (take m items)
-before_take items m item l is =
-    let more : take (m + 1) items ≡ take m items ++ item ∷ [] = take_more items m item l ∙ ap (λ (x : rust_item.Item). take m items ++ x ∷ []) (sym is) in
-    rw (more, before_more (take m items) item) refl
+before_take items m item l is = rw (take_at items m item l is, before_more (take m items) item) refl
 
 macro_named : (item : rust_item.Item) (before : List Item) (name : Text) → is_macro_named (item_of item) name ≡ true → IsMacro item before (macro_of (item_of item ∷ before) name)
 macro_named (code_item.Pred p params body) before name h = rw h refl

@@ -1,6 +1,8 @@
 -- Formulas without macros, and without where they lie in memory. Contracts speak of these.
-use Rattle.std.specs.Prelude.{ℕ}
+use Rattle.std.specs.Prelude.{ℕ, List, map}
 use Rattle.qtl_syntax.specs.declared.formula.Bound.{Bound}
+use Rattle.qtl_syntax.specs.Tree.{Text}
+use Rattle.wellformed.specs.declared.core_formula.CoreProp.{CoreProp}
 use Rattle.qtl_truth.specs.declared.numbered_atom.Atom as rust_atom
 use Rattle.wellformed.specs.declared.core_formula.CoreFormula as rust
 use Rattle.wellformed.specs.declared.core_formula.CoreFormula.TheVariants as code
@@ -46,3 +48,7 @@ core_of (code.TimedAlways' b p f) = TimedAlways b (core_of f)
 core_of (code.Interval' p f q g) = Interval (core_of f) (core_of g)
 core_of (code.Exists' v p f) = Exists v (core_of f)
 core_of (code.Forall' v p f) = Forall v (core_of f)
+
+-- the names and formulas of the properties that the program holds
+abbrev pub props_of : List CoreProp → List (Text × CoreFormula)
+props_of props = map (λ p. (p.name, core_of p.root)) props

@@ -2,10 +2,10 @@
 use Rattle.std.specs.Prelude.{ℕ, ◌+◌, List, [], ◌∷◌, ◌++◌, Bool, true, ◌&&◌, nat_eq}
 use Rattle.std.specs.List.{list_any, list_all}
 use Rattle.qtl_syntax.specs.Lawful.{is_lawful_bound}
+use Rattle.qtl_syntax.specs.Tree.{Text}
 use Rattle.qtl_truth.specs.declared.numbered_atom.AtomTerm.{AtomTerm}
 use Rattle.qtl_truth.specs.declared.numbered_atom.AtomTerm.TheVariants.{Variable, Constant}
-use Rattle.wellformed.specs.declared.core_formula.CoreProp.{CoreProp}
-use Rattle.wellformed.specs.CoreTree.{CoreFormula, True, False, Atom, Not, And, Or, Implies, Iff, Prev, Since, TimedSince, Once, TimedOnce, Always, TimedAlways, Interval, Exists, Forall, core_of}
+use Rattle.wellformed.specs.CoreTree.{CoreFormula, True, False, Atom, Not, And, Or, Implies, Iff, Prev, Since, TimedSince, Once, TimedOnce, Always, TimedAlways, Interval, Exists, Forall}
 
 -- how many nodes a formula has
 abbrev pub nodes : CoreFormula → ℕ
@@ -98,19 +98,19 @@ has_lawful_bounds (Exists v f) = has_lawful_bounds f
 has_lawful_bounds (Forall v f) = has_lawful_bounds f
 
 -- how many nodes the properties have together
-abbrev pub nodes_of : List CoreProp → ℕ
+abbrev pub nodes_of : List (Text × CoreFormula) → ℕ
 nodes_of [] = 0
-nodes_of (p ∷ props) = nodes (core_of p.root) + nodes_of props
+nodes_of (p ∷ props) = nodes p.1 + nodes_of props
 
 -- the variables that their quantifiers bind, in order of the text
-abbrev pub variables_bound : List CoreProp → List ℕ
+abbrev pub variables_bound : List (Text × CoreFormula) → List ℕ
 variables_bound [] = []
-variables_bound (p ∷ props) = bound_by (core_of p.root) ++ variables_bound props
+variables_bound (p ∷ props) = bound_by p.1 ++ variables_bound props
 
 -- each variable that occurs in them is bound by a quantifier round it
-abbrev pub are_closed : List CoreProp → Bool
-are_closed props = list_all (λ p. is_closed [] (core_of p.root)) props
+abbrev pub are_closed : List (Text × CoreFormula) → Bool
+are_closed props = list_all (λ p. is_closed [] p.1) props
 
 -- each of their bounds is at most 1,048,574
-abbrev pub have_lawful_bounds : List CoreProp → Bool
-have_lawful_bounds props = list_all (λ p. has_lawful_bounds (core_of p.root)) props
+abbrev pub have_lawful_bounds : List (Text × CoreFormula) → Bool
+have_lawful_bounds props = list_all (λ p. has_lawful_bounds p.1) props

@@ -1,6 +1,7 @@
 //! A specification without macros.
 ghost use Rattle.std.specs.Prelude.{◌≡◌, ◌≤◌, length, IsTrue};
 ghost use Rattle.std.specs.List.{range_with_len};
+ghost use Rattle.wellformed.specs.CoreTree.{props_of};
 ghost use Rattle.wellformed.specs.Sound.{are_closed, have_lawful_bounds, nodes_of, variables_bound};
 
 use crate::core_formula::{CoreProp, Variable};
@@ -15,8 +16,8 @@ pub struct Core {
     pub props: Items<CoreProp>,
     pub ghost some: { 1 ≤ length props },
     pub ghost few_variables: { length variables ≤ 64 },
-    pub ghost few_nodes: { nodes_of props ≤ 4096 },
-    pub ghost in_order: { variables_bound props ≡ range_with_len 0 (length variables) },
-    pub ghost closed: { IsTrue (are_closed props) },
-    pub ghost bounds: { IsTrue (have_lawful_bounds props) },
+    pub ghost few_nodes: { nodes_of (props_of props) ≤ 4096 },
+    pub ghost in_order: { variables_bound (props_of props) ≡ range_with_len 0 (length variables) },
+    pub ghost closed: { IsTrue (are_closed (props_of props)) },
+    pub ghost bounds: { IsTrue (have_lawful_bounds (props_of props)) },
 }

@@ -1,5 +1,5 @@
 //! The first pass: names and parameters that stand twice.
-ghost use Rattle.std.specs.Prelude.{◌≡◌, ◌∷◌, [], map};
+ghost use Rattle.std.specs.Prelude.{◌≡◌, ◌<◌, ◌∷◌, [], length, map};
 ghost use Rattle.qtl_syntax.specs.Tree.{item_of};
 ghost use Rattle.qtl_truth.specs.Items.{before_of};
 ghost use Rattle.wellformed.specs.Faults.{duplicate_from, has_repeat, is_duplicate, is_in, props_named};
@@ -64,12 +64,13 @@ fn repeats_name(before: &[Item], item: &Item) -> bool
 }
 
 /// The first item with a name that an earlier one has, or with a parameter twice.
-pub fn duplicate_name(items: &[Item]) -> Option<usize>
+pub fn duplicate_name(items: &[Item]) -> Option<u32>
+    requires { length items.now < 4294967296 }
     ensures { result ≡ duplicate_from [] 0 (map item_of items.now) }
 {
     for (m, item) in items.iter().enumerate() {
         if repeats_name(&items[..m], item) {
-            return Some(m);
+            return Some(m as u32);
         }
     }
     None

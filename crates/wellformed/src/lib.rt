@@ -4,11 +4,16 @@
 mod clash;
 mod core_formula;
 mod core_spec;
+mod counts;
 mod duplicates;
+mod expand;
 mod fault;
 mod macros;
+mod meaning;
+mod passes;
 mod walk;
 
+pub use passes::check;
 pub use core_formula::{CoreFormula, CoreProp, Variable};
 pub use core_spec::Core;
 pub use fault::NameFault;

@@ -8,7 +8,7 @@ ghost use Rattle.wellformed.specs.Macros.{macro_of, is_macro_named, IsMacroAt};
 use qtl_syntax::{Item, Text};
 
 /// Whether the item is a macro of the name.
-fn is_macro(item: &Item, name: &Text) -> bool
+pub fn is_macro(item: &Item, name: &Text) -> bool
     ensures { result ≡ is_macro_named (item_of item.now) name.now }
 {
     match item {

@@ -1,7 +1,7 @@
 use Rattle.std.proofs.Common.{◌<◌, length, arith}
 use Rattle.qtl_syntax.specs.Tree.{item_of}
 use Rattle.wellformed.specs.Faults.{HasFewNodes, body_of, nodes_of}
-use Rattle.wellformed.proofs.Passes.{all_at}
+use Rattle.wellformed.proofs.ItemSteps.{all_at}
 use Rattle.wellformed.proofs.clash.first_clash.Goals as goal
 
 pub any_clashes-requires : goal.any_clashes-requires

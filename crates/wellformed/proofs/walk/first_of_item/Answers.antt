@@ -3,7 +3,7 @@ use Rattle.qtl_syntax.specs.Tree.{item_of, formula_of}
 use Rattle.qtl_syntax.specs.declared.formula.Item as rust_item
 use Rattle.wellformed.specs.Faults.{HasFewNodes, nodes_of}
 use Rattle.wellformed.proofs.Nodes.{same_length}
-use Rattle.wellformed.proofs.Passes.{all_at}
+use Rattle.wellformed.proofs.ItemSteps.{all_at}
 use Rattle.wellformed.proofs.walk.first_of_item.Goals as goal
 
 pub any_fails-found-requires-clause-few : goal.any_fails-found-requires-clause-few
