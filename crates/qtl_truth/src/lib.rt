@@ -21,4 +21,6 @@ pub use quantifier_free::{has_no_quantifier, macros_have_no_quantifier};
 pub use slow::evaluate;
 
 #[cfg(test)]
+mod match_tests;
+#[cfg(test)]
 mod tests;

@@ -8,8 +8,8 @@ ghost use Rattle.qtl_truth.specs.NumberedAtom.{text_under, AtomHolds, IsAtomOf};
 ghost use Rattle.qtl_truth.specs.Truth.{event_at};
 ghost use Rattle.qtl_truth.specs.Matching.{arg_at, ArgsBelow, with_term, variables_of, place_variables, IsMatch, IsTaken};
 
-use crate::numbered_atom::{Atom, AtomTerm};
 use crate::event::Event;
+use crate::numbered_atom::{Atom, AtomTerm};
 use qtl_syntax::Text;
 use smallvec::SmallVec;
 use std::alloc::{AllocError, Global};
