@@ -37,7 +37,9 @@ fn expand<'a>(
             let numbered = number_all(alloc, meaning, terms.as_slice())?;
             call(alloc, items, name, numbered, property, variables)
         }
-        Formula::Not(f) => Ok(CoreFormula::Not(one(alloc, items, meaning, f, property, variables)?)),
+        Formula::Not(f) => Ok(CoreFormula::Not(one(
+            alloc, items, meaning, f, property, variables,
+        )?)),
         Formula::And(f, g) => {
             let (f, g) = two(alloc, items, meaning, f, g, property, variables)?;
             Ok(CoreFormula::And(f, g))

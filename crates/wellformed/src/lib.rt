@@ -13,7 +13,7 @@ mod meaning;
 mod passes;
 mod walk;
 
-pub use passes::check;
 pub use core_formula::{CoreFormula, CoreProp, Variable};
 pub use core_spec::Core;
 pub use fault::NameFault;
+pub use passes::check;

@@ -27,11 +27,7 @@ pub enum Meaning<'a> {
 }
 
 /// The term in the place of the parameter of this name.
-fn argument(
-    params: &[Text],
-    terms: &[AtomTerm],
-    name: &Text,
-) -> Result<AtomTerm, AllocError>
+fn argument(params: &[Text], terms: &[AtomTerm], name: &Text) -> Result<AtomTerm, AllocError>
     ensures { IfOk result (λ t. t ≡ meant (zip params.now terms.now) name.now) }
 {
     let count = params.len().min(terms.len());

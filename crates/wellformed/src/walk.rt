@@ -180,7 +180,14 @@ fn first_of_item(items: &[Item], m: usize, test: Test) -> Option<u32>
     let mut node = 0;
     let found = match &items[m] {
         Item::Pred { params, body, .. } => {
-            any_fails(items, m, test, &Scope::Params(params.as_slice()), body, &mut node)
+            any_fails(
+                items,
+                m,
+                test,
+                &Scope::Params(params.as_slice()),
+                body,
+                &mut node,
+            )
         }
         Item::Prop { body, .. } => {
             any_fails(items, m, test, &Scope::Params(&[]), body, &mut node)

@@ -10,7 +10,7 @@ pub loop-m-preserved : goal.loop-m-preserved
 loop-m-preserved c =
     let inv = c.loop-m.invariant in
     let own : IsCountOf c.count_of-own.result (before_of (take c.loop-m.m c.args.items.now)) (body_of (item_of c.index-items-m.result)) =
-        rw c.body_of.ensures at c.count_of-own.ensures in
+    rw c.body_of.ensures at c.count_of-own.ensures in
     let next = next_counts c.args.items.now c.loop-m.m c.loop-m.counts.items c.index-items-m.result c.loop-m.total c.count_of-own.result c.with_item-total.result c.loop-m-test.true c.index-items-m.is
     inv.known own c.with_item-total.ensures in
     record {
