@@ -192,14 +192,14 @@ fn under<'a>(
     ensures count { OnOk result (length variables.new ≡ length variables.old + (1 + quantifiers (before_of items.now) (formula_of formula.now))) }
     ensures variables { OnOk result (variables.new ≡ variables.old ++ variables_named property (name.now ∷ quantifier_names (before_of items.now) (formula_of formula.now))) }
 {
-    let number = variables.len() as u32;
+    let own = variables.len() as u32;
     variables.push(Variable {
         name: name.copy()?,
         property,
     })?;
     let inner = Meaning::Bound {
         name: &*name,
-        number,
+        number: own,
         outer: &*meaning,
     };
     one(alloc, items, &inner, formula, property, variables)

@@ -10,10 +10,15 @@ mod expand;
 mod fault;
 mod macros;
 mod meaning;
+mod numbers;
 mod passes;
 mod walk;
 
 pub use core_formula::{CoreFormula, CoreProp, Variable};
 pub use core_spec::Core;
 pub use fault::NameFault;
+pub use numbers::can_be_numbered;
 pub use passes::check;
+
+#[cfg(test)]
+mod tests;
