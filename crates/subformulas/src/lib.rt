@@ -1,0 +1,12 @@
+//! The numbered table of the subformulas of a specification.
+#![tactic(auto)]
+
+mod flatten;
+mod numbering;
+mod plan;
+mod table;
+
+pub use numbering::make_plan;
+pub use plan::Plan;
+pub use table::{Kind, PlanProp, Sub};
+

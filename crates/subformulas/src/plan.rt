@@ -1,0 +1,125 @@
+//! A plan: the table of subformulas, with the variables and the properties.
+ghost use Rattle.std.specs.Prelude.{◌≡◌, ◌-◌, ◌≤◌, ◌<◌, length, slice_get, Some};
+ghost use Rattle.std.specs.List.{list_any};
+ghost use Rattle.std.specs.Option.{option_map};
+ghost use Rattle.subformulas.specs.Table.{is_timed, IsSound};
+
+use crate::table::{Kind, PlanProp, Sub};
+use qtl_syntax::Text;
+use sqlite_items::Items;
+use std::marker::Model;
+use wellformed::Variable;
+
+/// The numbered table of the subformulas of a specification. They count from 1, children before parents, the left child
+/// first, properties in order of the text; equal ones are numbered apart. Properties count from 0.
+#[derive(Drop)]
+pub struct Plan {
+    variables: Items<Variable>,
+    subs: Items<Sub>,
+    props: Items<PlanProp>,
+}
+
+impl Model for Plan {
+    ghost use Rattle.subformulas.specs.Table.{Table, IsSound};
+
+    ghost Value = { Table };
+
+    ghost view = { λ p. record { variables = p.variables; subs = p.subs; props = p.props } };
+
+    ghost invariant = { λ p. IsSound (record { variables = p.variables; subs = p.subs; props = p.props }) };
+}
+
+/// A plan of these parts.
+pub fn plan_of(variables: Items<Variable>, subs: Items<Sub>, props: Items<PlanProp>) -> Plan
+    requires { IsSound (record { variables = variables; subs = subs; props = props }) }
+    ensures { result ≡ record { variables = variables; subs = subs; props = props } }
+{
+    Plan {
+        variables,
+        subs,
+        props,
+    }
+}
+
+/// Whether the kind is that of a timed operator.
+fn is_timed(kind: &Kind) -> bool
+    ensures { result ≡ is_timed kind.now }
+{
+    match kind {
+        Kind::SinceAtMost(_)
+        | Kind::SinceMoreThan(_)
+        | Kind::OnceAtMost(_)
+        | Kind::OnceMoreThan(_)
+        | Kind::AlwaysAtMost(_)
+        | Kind::AlwaysMoreThan(_) => true,
+        _ => false,
+    }
+}
+
+/// Whether one of the rows is a timed operator.
+fn has_timed(subs: &[Sub]) -> bool
+    ensures { result ≡ list_any (λ s. is_timed s.kind) subs.now }
+{
+    for sub in subs {
+        if is_timed(&sub.kind) {
+            return true;
+        }
+    }
+    false
+}
+
+impl Plan {
+    /// How many subformulas there are. Each plan is sound.
+    pub fn count(&self) -> u32
+        ensures count { result ≡ length self.now.subs }
+        ensures sound { IsSound self.now }
+    {
+        self.subs.len() as u32
+    }
+
+    /// Subformula k, counted from 1.
+    pub fn sub(&self, k: u32) -> &Sub
+        requires from { 1 ≤ k }
+        requires to { k ≤ length self.now.subs }
+        ensures { slice_get self.now.subs (k - 1) ≡ Some result.now }
+    {
+        &self.subs.as_slice()[k as usize - 1]
+    }
+
+    /// The variables, by number.
+    pub fn variables(&self) -> &[Variable]
+        ensures { result.now ≡ self.now.variables }
+    {
+        self.variables.as_slice()
+    }
+
+    /// How many properties there are.
+    pub fn props(&self) -> u32
+        ensures { result ≡ length self.now.props }
+    {
+        self.props.len() as u32
+    }
+
+    /// The name of property p, counted from 0.
+    pub fn prop_name(&self, p: u32) -> &Text
+        requires { p < length self.now.props }
+        ensures { option_map (λ q. q.name) (slice_get self.now.props p) ≡ Some result.now }
+    {
+        &self.props.as_slice()[p as usize].name
+    }
+
+    /// The number of the formula of property p, counted from 0.
+    pub fn root(&self, p: u32) -> u32
+        requires { p < length self.now.props }
+        ensures { option_map (λ q. q.root) (slice_get self.now.props p) ≡ Some result }
+    {
+        self.props.as_slice()[p as usize].root
+    }
+
+    /// Whether a subformula is a timed operator.
+    pub fn is_timed(&self) -> bool
+        ensures { result ≡ list_any (λ s. is_timed s.kind) self.now.subs }
+    {
+        has_timed(self.subs.as_slice())
+    }
+}

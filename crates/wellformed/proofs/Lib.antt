@@ -1,0 +1,15 @@
+pub mod Accepted
+pub mod Arguments
+pub mod Calls
+pub mod Clashes
+pub mod Counting
+pub mod FirstFaults
+pub mod Found
+pub mod Kept
+pub mod Lists
+pub mod Nodes
+pub mod ItemSteps
+pub mod Rows
+pub mod Same
+pub mod Sound
+pub mod SoundProps

@@ -1,0 +1,11 @@
+pub mod Clash
+pub mod CoreTree
+pub mod CoreTruth
+pub mod Counts
+pub mod Expansion
+pub mod Faults
+pub mod Kept
+pub mod Macros
+pub mod Meanings
+pub mod Sound
+pub mod Walk

@@ -1,0 +1,24 @@
+//! Specifications whose names make sense, and what they are without macros: one variable for each quantifier.
+#![tactic(auto)]
+
+mod clash;
+mod core_formula;
+mod core_spec;
+mod counts;
+mod duplicates;
+mod expand;
+mod fault;
+mod macros;
+mod meaning;
+mod numbers;
+mod passes;
+mod walk;
+
+pub use core_formula::{CoreFormula, CoreProp, Variable};
+pub use core_spec::Core;
+pub use fault::NameFault;
+pub use numbers::can_be_numbered;
+pub use passes::check;
+
+#[cfg(test)]
+mod tests;
