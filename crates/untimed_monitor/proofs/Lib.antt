@@ -1,0 +1,5 @@
+mod Atoms
+mod First
+mod Steps
+mod Table
+mod Walking
