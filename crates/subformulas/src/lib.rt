@@ -10,3 +10,5 @@ pub use numbering::make_plan;
 pub use plan::Plan;
 pub use table::{Kind, PlanProp, Sub};
 
+#[cfg(test)]
+mod tests;

@@ -10,9 +10,9 @@ plan_of-requires c =
     let core = c.args.core in
     let items = c.as_slice-prop-items.ensures in
     let subs : c.loop-prop.subs ≡ all_numbered 0 (props_of core.props) =
-        all_subs core.props c.loop-prop.prop-index c.loop-prop.subs _ (rw items at c.loop-prop-test.false) (rw items at c.loop-prop.invariant.subs) in
+    all_subs core.props c.loop-prop.prop-index c.loop-prop.subs _ (rw items at c.loop-prop-test.false) (rw items at c.loop-prop.invariant.subs) in
     let props : c.loop-prop.props ≡ roots 0 (props_of core.props) =
-        all_props core.props c.loop-prop.prop-index (length c.loop-prop.subs) c.loop-prop.props _ (rw items at c.loop-prop-test.false) (rw items at c.loop-prop.invariant.props) in
+    all_props core.props c.loop-prop.prop-index (length c.loop-prop.subs) c.loop-prop.props _ (rw items at c.loop-prop-test.false) (rw items at c.loop-prop.invariant.props) in
     let one = core.some in
     let same = props_length core.props in
     rw (subs, props) (is_sound core.variables (props_of core.props) (omega arith) core.few_variables core.few_nodes core.in_order core.closed core.bounds)
@@ -22,7 +22,7 @@ returns-clause-unfolds c =
     let core = c.args.core in
     let items = c.as_slice-prop-items.ensures in
     let subs : c.loop-prop.subs ≡ all_numbered 0 (props_of core.props) =
-        all_subs core.props c.loop-prop.prop-index c.loop-prop.subs _ (rw items at c.loop-prop-test.false) (rw items at c.loop-prop.invariant.subs) in
+    all_subs core.props c.loop-prop.prop-index c.loop-prop.subs _ (rw items at c.loop-prop-test.false) (rw items at c.loop-prop.invariant.subs) in
     rw (c.plan_of.ensures, subs) (table_unfolds (props_of core.props))
 
 pub returns-clause-props : goal.returns-clause-props
@@ -30,7 +30,7 @@ returns-clause-props c =
     let core = c.args.core in
     let items = c.as_slice-prop-items.ensures in
     let subs : c.loop-prop.subs ≡ all_numbered 0 (props_of core.props) =
-        all_subs core.props c.loop-prop.prop-index c.loop-prop.subs _ (rw items at c.loop-prop-test.false) (rw items at c.loop-prop.invariant.subs) in
+    all_subs core.props c.loop-prop.prop-index c.loop-prop.subs _ (rw items at c.loop-prop-test.false) (rw items at c.loop-prop.invariant.subs) in
     let props : c.loop-prop.props ≡ roots 0 (props_of core.props) =
-        all_props core.props c.loop-prop.prop-index (length c.loop-prop.subs) c.loop-prop.props _ (rw items at c.loop-prop-test.false) (rw items at c.loop-prop.invariant.props) in
+    all_props core.props c.loop-prop.prop-index (length c.loop-prop.subs) c.loop-prop.props _ (rw items at c.loop-prop-test.false) (rw items at c.loop-prop.invariant.props) in
     rw (c.plan_of.ensures, subs, props) (props_stand (props_of core.props))
