@@ -8,3 +8,4 @@ pub mod EndLemmas
 pub mod FeedLemmas
 pub mod StateLemmas
 pub mod MarkLemmas
+pub mod GrowthLemmas

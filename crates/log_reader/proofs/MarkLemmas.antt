@@ -70,7 +70,7 @@ unmarks (a ∷ bytes) are_all = by_first (a == 239) (other_way a 239)
 some_none : (n : ℕ) → Some n ≡ None → ⊥
 some_none n e = cc
 
-none_begun : (m : Mark) (ended : Bool) → mark_length m ended ≡ None → (m ≡ Begun) × (ended ≡ false)
+pub none_begun : (m : Mark) (ended : Bool) → mark_length m ended ≡ None → (m ≡ Begun) × (ended ≡ false)
 none_begun Whole ended e = absurd (some_none 3 e)
 none_begun Begun true e = absurd (some_none 0 e)
 none_begun Begun false e = (refl, refl)
@@ -80,7 +80,7 @@ is_byte : (x y : ℕ) → (x == y) ≡ true → x ≡ y
 is_byte x y e = grind (arith, nat_tests)
 
 -- the front of a mark is a line that waits
-begun_waits : (timed : Bool) (number : ℕ) (bytes : Text) → mark_of bytes ≡ Begun → answer (cut_in timed false number 0 (lines_from [] (without_mark bytes))) ≡ Ok None
+pub begun_waits : (timed : Bool) (number : ℕ) (bytes : Text) → mark_of bytes ≡ Begun → answer (cut_in timed false number 0 (lines_from [] (without_mark bytes))) ≡ Ok None
 begun_waits timed number [] e = refl
 begun_waits timed number (a ∷ bytes) e = by_first bytes (a == 239) refl e
   where

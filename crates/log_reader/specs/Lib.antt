@@ -3,6 +3,7 @@ pub mod Lines
 pub mod Faults
 pub mod Records
 pub mod Places
+pub mod Growth
 pub mod Standing
 pub mod State
 pub mod Quotes

@@ -3,6 +3,7 @@
 
 mod buffer;
 mod fault;
+mod laws;
 mod mark;
 mod place;
 mod reader;
@@ -11,6 +12,7 @@ mod state;
 mod text;
 
 pub use fault::LogFault;
+pub use laws::{records_stay, records_take_bytes};
 pub use reader::LogReader;
 
 #[cfg(test)]
