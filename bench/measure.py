@@ -1,7 +1,7 @@
 """Times a monitor beside programs that only read its log: one run of each in turn, for some rounds.
 
-Called by run.sh. Times are user and system processor time. Peak memory is what the kernel counts for the
-running process, asked every few milliseconds.
+Called by run.sh, with the name of a peer as the last word, or nothing there. Times are user and system processor
+time. Peak memory is what the kernel counts for the running process, asked every few milliseconds.
 """
 import os
 import statistics
@@ -49,13 +49,16 @@ def processor():
 
 def main():
     program, spec, log = sys.argv[1:4]
-    lines, rounds = int(sys.argv[4]), int(sys.argv[5])
+    lines, rounds, peer = int(sys.argv[4]), int(sys.argv[5]), sys.argv[6]
     report = log + ".report"
+    counted = log + ".counted"
     programs = {
         "dejavu": ([program, spec, log], report),
         "wc -l": (["wc", "-l", log], os.devnull),
         "cat": (["cat", log], os.devnull),
     }
+    if peer:
+        programs["peer"] = ([peer, "records", log], counted)
     seconds = {name: [] for name in programs}
     peaks = dict.fromkeys(programs, 0)
     for _ in range(rounds):
@@ -68,6 +71,10 @@ def main():
     with open(report, encoding="ascii") as written:
         if written.read() != f"events {lines} violations 0\n":
             sys.exit("the report is not the one wanted")
+    if peer:
+        with open(counted, encoding="ascii") as written:
+            if written.read().split()[:2] != ["records", str(lines)]:
+                sys.exit("the peer's count of records is not the one wanted")
 
     medians = {name: statistics.median(times) for name, times in seconds.items()}
     print(f"processor: {processor()}")
@@ -77,8 +84,8 @@ def main():
         peak = f"{peaks[name]} KiB at most" if peaks[name] else "memory not seen"
         nanoseconds = medians[name] / lines * 1e9
         print(f"{name:7} {medians[name]:7.3f} s ({spread})  {nanoseconds:7.2f} ns a line  {peak}")
-    for name in ("wc -l", "cat"):
-        if medians[name] > 0:
+    for name in programs:
+        if name != "dejavu" and medians[name] > 0:
             print(f"dejavu / {name}: {medians['dejavu'] / medians[name]:.1f}")
 
 

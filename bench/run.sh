@@ -1,13 +1,15 @@
 #!/bin/sh
-# Times the proved program on a long log, beside programs that only read it. It is no part of the gate.
-# usage: bench/run.sh [LINES [ROUNDS]]
+# Times the proved program on long logs, beside programs that only read them. It is no part of the gate.
+# usage: bench/run.sh [LINES [ROUNDS [PEER]]]
+# PEER is a program that reads the records of a log, as README.md tells. It may be left out.
 set -eu
 
 lines=${1:-10000000}
 rounds=${2:-7}
+peer=${3:-}
 here=$(CDPATH='' cd "$(dirname "$0")" && pwd)
 program=$here/../crates/dejavu_cli/out/dejavu_cli
-log=$here/data/session-$lines.csv
+spec=$here/session.qtl
 
 if [ ! -x "$program" ]; then
     echo 'the proved program is not built: run .ci/run first' >&2
@@ -17,16 +19,37 @@ if ! command -v python3 >/dev/null; then
     echo 'python3 is missing' >&2
     exit 1
 fi
+if [ -n "$peer" ] && [ ! -x "$peer" ]; then
+    echo "$peer is no program" >&2
+    exit 1
+fi
+mkdir -p "$here/data"
 
 # Sessions of 1000 users, one after another, each of a login, three accesses and a logout. User 17 comes first.
-if [ ! -s "$log" ]; then
-    mkdir -p "$here/data"
+plain=$here/data/session-$lines.csv
+if [ ! -s "$plain" ]; then
     awk -v lines="$lines" 'BEGIN {
         split("login access access access logout", step, " ")
         for (k = 0; k < lines; k++)
             print step[k % 5 + 1] ",u" (17 + int(k / 5)) % 1000
-    }' >"$log.part"
-    mv "$log.part" "$log"
+    }' >"$plain.part"
+    mv "$plain.part" "$plain"
 fi
 
-exec python3 "$here/measure.py" "$program" "$here/session.qtl" "$log" "$lines" "$rounds"
+# The same sessions with quotes, blanks and carriage returns. The second access of each is by another user, whose
+# name has a double quote in it.
+quoted=$here/data/quoted-$lines.csv
+if [ ! -s "$quoted" ]; then
+    awk -v lines="$lines" 'BEGIN {
+        split("login,\"u|access , \"u|access , \"u\"\"|access,\"u|logout,\"u", before, "|")
+        split("\"|\" |\" |\"|\"", after, "|")
+        for (k = 0; k < lines; k++)
+            printf "%s%d%s\r\n", before[k % 5 + 1], (17 + int(k / 5)) % 1000, after[k % 5 + 1]
+    }' >"$quoted.part"
+    mv "$quoted.part" "$quoted"
+fi
+
+for log in "$plain" "$quoted"; do
+    echo "== $(basename "$log")"
+    python3 "$here/measure.py" "$program" "$spec" "$log" "$lines" "$rounds" "$peer"
+done

@@ -1,10 +1,10 @@
 //! What no clause says: that calls succeed where memory is ample, and what the host's adapters do.
 
-ghost use Rattle.std.specs.Prelude.{◌≡◌, ◌∷◌, [], ◌≤◌, ◌<◌, IfOk};
+ghost use Rattle.std.specs.Prelude.{◌≡◌, ◌∷◌, [], ◌≤◌, ◌<◌, IfOk, IsSome};
 
 use crate::{
     Failed, Files, HostFiles, MemFile, MemFiles, MemSink, NoMemory, OpenEnd, OutSink, Sink, Source,
-    Steps, put_all,
+    SteadySource, Steps, put_all,
 };
 use std::alloc::Global;
 use std::fs;
@@ -50,6 +50,48 @@ fn memory_gives_pieces_and_failures(rt: HostRuntime) -> Result<(), Fail> {
     assert_eq!(rt; &buf[..4], b"cdef".as_slice());
     assert_eq!(rt; source.read(&mut buf), Ok(0));
     files.close(source);
+    Ok(())
+}
+
+/// Takes only files that tell all their meanings.
+fn takes_told_files<F: Files>(_files: &F)
+    requires texts { IsSome (F.texts _files.now) }
+    requires opened { IsSome (F.opened _files.now) }
+    requires unread { IsSome (F.unread _files.now) }
+    requires hurt { IsSome (F.hurt _files.now) }
+{}
+
+#[test]
+fn memory_tells_all_and_is_closed_in_any_order(rt: HostRuntime) -> Result<(), Fail> {
+    let mut files = two_files(rt.alloc())?;
+    takes_told_files(&files);
+    let first = files.open("log")?;
+    assert_eq!(rt; files.open("shut").err(), Some(OpenEnd::Failed));
+    let mut second = files.open("log")?;
+    let mut buf = [0; 5];
+    assert_eq!(rt; second.read(&mut buf), Ok(2));
+    files.close(second);
+    let third = files.open("log")?;
+    files.close(first);
+    files.close(third);
+    takes_told_files(&files);
+    Ok(())
+}
+
+#[test]
+fn a_steady_source_gives_pieces(rt: HostRuntime) -> Result<(), Fail> {
+    let pieces = vec![in rt.alloc(); 2, 1]?;
+    let mut source = SteadySource::new(b"abcdef".to_vec(rt.alloc())?, pieces);
+    let mut buf = [0; 5];
+    for wanted in [
+        b"ab".as_slice(),
+        b"c".as_slice(),
+        b"def".as_slice(),
+        b"".as_slice(),
+    ] {
+        assert_eq!(rt; source.read(&mut buf), Ok(wanted.len()));
+        assert_eq!(rt; &buf[..wanted.len()], wanted);
+    }
     Ok(())
 }
 
