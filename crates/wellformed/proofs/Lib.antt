@@ -13,3 +13,4 @@ pub mod Rows
 pub mod Same
 pub mod Sound
 pub mod SoundProps
+pub mod Spelled
