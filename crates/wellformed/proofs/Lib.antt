@@ -3,6 +3,7 @@ pub mod Arguments
 pub mod Calls
 pub mod Clashes
 pub mod Counting
+pub mod FewTerms
 pub mod FirstFaults
 pub mod Found
 pub mod Kept
