@@ -1,5 +1,6 @@
 mod Atoms
 mod First
+mod Rows
 mod Steps
 mod Table
 mod Walking

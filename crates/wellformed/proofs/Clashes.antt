@@ -1,5 +1,5 @@
 -- Atoms that clash, a node at a time.
-use Rattle.std.proofs.Common.{◌≡◌, ℕ, ◌+◌, ◌<◌, List, [], ◌∷◌, ◌++◌, length, length-append, suc, refl, Option, Some, None, Bool, true, false, Result, Ok, Err, ap, sym, ◌∙◌, arith}
+use Rattle.std.proofs.Common.{◌≡◌, ℕ, ◌+◌, List, [], ◌∷◌, ◌++◌, length, length-append, suc, refl, Option, Some, None, Bool, true, false, Result, Ok, Err, sym, ◌∙◌, arith}
 use Rattle.std.specs.Prelude.{if◌then◌else◌, IfOk}
 use Rattle.qtl_syntax.specs.Tree.{Text, Formula, Item}
 use Rattle.wellformed.specs.declared.clash.Arity.{Arity}

@@ -1,6 +1,6 @@
 -- Macros that are found, an item at a time.
-use Rattle.std.proofs.Common.{◌≡◌, ℕ, ◌+◌, ◌<◌, List, [], ◌∷◌, ◌++◌, length, refl, Option, Some, None, Bool, true, false, ap, sym, ◌∙◌, arith, get_or, take, drop}
-use Rattle.std.specs.Prelude.{map, bytes_eq, MatchOption, if◌then◌else◌}
+use Rattle.std.proofs.Common.{◌≡◌, ℕ, ◌+◌, ◌<◌, List, [], ◌∷◌, ◌++◌, length, refl, Option, Some, None, true, false, ap, sym, ◌∙◌, arith, get_or, take}
+use Rattle.std.specs.Prelude.{map, MatchOption}
 use Rattle.std.proofs.lemmas.List.{take_more, reverse-append, map-append}
 use Rattle.std.proofs.lemmas.Option.{slice_get_read}
 use Rattle.qtl_syntax.specs.Tree.{Text, Item, Pred, Prop, item_of}

@@ -1,8 +1,7 @@
 -- Passes over items, an item at a time.
 use Rattle.std.proofs.Common.{◌≡◌, ℕ, ◌+◌, ◌<◌, List, [], ◌∷◌, ◌++◌, length, zero, suc, refl, Option, Some, None, ap, arith, take, drop}
-use Rattle.std.specs.Prelude.{map, slice_get, slice_index_or}
+use Rattle.std.specs.Prelude.{map, slice_index_or}
 use Rattle.std.specs.List.{AllByRecursion}
-use Rattle.std.proofs.lemmas.Option.{slice_get_read}
 use Rattle.qtl_syntax.specs.Tree.{Item, item_of}
 use Rattle.qtl_syntax.specs.declared.formula.Item as rust_item
 use Rattle.qtl_truth.specs.Items.{before_of}

@@ -3,6 +3,7 @@ pub mod Arguments
 pub mod Calls
 pub mod Clashes
 pub mod Counting
+pub mod FewTerms
 pub mod FirstFaults
 pub mod Found
 pub mod Kept
@@ -13,3 +14,4 @@ pub mod Rows
 pub mod Same
 pub mod Sound
 pub mod SoundProps
+pub mod Spelled

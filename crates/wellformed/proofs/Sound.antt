@@ -1,11 +1,10 @@
 -- What holds of each formula that an expansion makes.
-use Rattle.std.proofs.Common.{◌≡◌, ℕ, ◌+◌, ◌<◌, ◌≤◌, List, [], ◌∷◌, ◌++◌, length, length-append, refl, Bool, true, false, IsTrue, ap, sym, ◌∙◌, arith, zero, suc}
-use Rattle.std.specs.Prelude.{map, bytes_eq, if◌then◌else◌, ◌&&◌, ◌||◌, nat_eq, MatchBool, nat_lt}
-use Rattle.std.specs.List.{zip, list_any, list_all, range_with_len}
+use Rattle.std.proofs.Common.{◌≡◌, ℕ, ◌+◌, ◌≤◌, List, [], ◌∷◌, ◌++◌, length, refl, Bool, true, false, IsTrue, ap, arith, zero, suc}
+use Rattle.std.specs.Prelude.{map, bytes_eq, if◌then◌else◌, ◌&&◌, ◌||◌, nat_eq, MatchBool}
+use Rattle.std.specs.List.{zip, list_any, range_with_len}
 use Rattle.std.proofs.lemmas.Bool.Decides.{nat_tests}
 use Rattle.qtl_syntax.specs.declared.formula.Term.{Term}
 use Rattle.qtl_syntax.specs.declared.formula.Term.TheVariants as term
-use Rattle.qtl_syntax.specs.Tree as surface
 use Rattle.qtl_syntax.specs.Tree.{Text, Formula, True, False, Atom, Not, And, Or, Implies, Iff, Prev, Since, TimedSince, Once, TimedOnce, Always, TimedAlways, Interval, Exists, Forall, Item, Pred, Prop}
 use Rattle.qtl_syntax.specs.Lawful.{is_lawful_bound, is_lawful_formula, is_lawful_item, are_lawful}
 use Rattle.qtl_truth.specs.declared.numbered_atom.AtomTerm.{AtomTerm}

@@ -1,17 +1,17 @@
 -- What holds of the properties of an accepted specification without macros.
-use Rattle.std.proofs.Common.{◌≡◌, ℕ, ◌+◌, ◌<◌, ◌≤◌, List, [], ◌∷◌, ◌++◌, length, refl, Option, Some, None, Bool, true, false, IsTrue, ap, sym, ◌∙◌, arith}
-use Rattle.std.specs.Prelude.{if◌then◌else◌, ◌&&◌, nat_lt, map}
+use Rattle.std.proofs.Common.{◌≡◌, ℕ, ◌+◌, ◌≤◌, List, [], ◌∷◌, length, refl, Some, None, Bool, true, false, IsTrue, arith}
+use Rattle.std.specs.Prelude.{if◌then◌else◌, nat_lt}
 use Rattle.std.specs.List.{range_with_len}
 use Rattle.std.proofs.lemmas.Bool.Decides.{nat_tests}
 use Rattle.qtl_syntax.specs.Lawful.{is_lawful_formula, is_lawful_item, are_lawful}
-use Rattle.qtl_syntax.specs.Tree.{Text, Formula, Item, Pred, Prop}
+use Rattle.qtl_syntax.specs.Tree.{Text, Item, Pred, Prop}
 use Rattle.wellformed.specs.declared.core_formula.CoreProp.{CoreProp}
 use Rattle.wellformed.specs.declared.fault.NameFault.{NameFault}
-use Rattle.wellformed.specs.declared.fault.NameFault.TheVariants.{LateMacro, MacroArity, ArityClash, FreeVariable, NoProperty, TooManySubformulas, TooManyVariables}
+use Rattle.wellformed.specs.declared.fault.NameFault.TheVariants.{LateMacro, MacroArity, ArityClash, FreeVariable, NoProperty, TooManySubformulas}
 use Rattle.wellformed.specs.CoreTree.{CoreFormula, props_of}
 use Rattle.wellformed.specs.Expansion.{AreClosed, quantifiers, expansion, expanded_props, props_quantifiers}
-use Rattle.wellformed.specs.Faults.{above, arity_pass, at_item, at_node, clash_pass, duplicate_from, first_count, first_in, first_name, free_pass, has_prop, late_pass, or_else, props_size}
-use Rattle.wellformed.specs.Sound.{nodes, is_closed, has_lawful_bounds, nodes_of, variables_bound, are_closed, have_lawful_bounds}
+use Rattle.wellformed.specs.Faults.{above, arity_pass, at_item, at_node, clash_pass, duplicate_from, first_count, first_in, first_name, free_pass, has_prop, late_pass, props_size}
+use Rattle.wellformed.specs.Sound.{is_closed, has_lawful_bounds, nodes_of, variables_bound, are_closed, have_lawful_bounds}
 use Rattle.wellformed.proofs.Accepted.{first_item, item_closed, neither, no_node}
 use Rattle.wellformed.proofs.Sound.{and_parts, and_true, both_bound, expansion_size, expansion_numbers, expansion_bounds, expansion_closed}
 

@@ -8,4 +8,6 @@ pub mod Kept
 pub mod Macros
 pub mod Meanings
 pub mod Sound
+pub mod Terms
+pub mod Timed
 pub mod Walk

@@ -8,6 +8,7 @@ mod counts;
 mod duplicates;
 mod expand;
 mod fault;
+mod laws;
 mod macros;
 mod meaning;
 mod numbers;
@@ -17,6 +18,7 @@ mod walk;
 pub use core_formula::{CoreFormula, CoreProp, Variable};
 pub use core_spec::Core;
 pub use fault::NameFault;
+pub use laws::{short_texts_have_few_nodes, short_texts_have_few_terms};
 pub use numbers::can_be_numbered;
 pub use passes::check;
 

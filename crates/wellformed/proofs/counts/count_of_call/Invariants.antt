@@ -1,4 +1,4 @@
-use Rattle.std.proofs.Common.{◌≡◌, take, drop}
+use Rattle.std.proofs.Common.{take, drop}
 use Rattle.qtl_truth.specs.Items.{before_of}
 use Rattle.wellformed.specs.Counts.{AreCounts, IsCount}
 use Rattle.wellformed.specs.Expansion.{call_quantifiers, call_size}

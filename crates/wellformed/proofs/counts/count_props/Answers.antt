@@ -1,5 +1,5 @@
-use Rattle.std.proofs.Common.{◌≡◌, ◌∙◌, [], ◌∷◌, arith, take, length-append}
-use Rattle.qtl_syntax.specs.Tree.{Formula, item_of}
+use Rattle.std.proofs.Common.{◌∙◌, [], ◌∷◌, arith, take, length-append}
+use Rattle.qtl_syntax.specs.Tree.{item_of}
 use Rattle.qtl_truth.specs.Items.{before_of}
 use Rattle.wellformed.specs.Counts.{IsCountOf}
 use Rattle.wellformed.specs.Faults.{body_of}

@@ -1,5 +1,5 @@
-use Rattle.std.proofs.Common.{◌≡◌, List, [], None, length, map, refl, arith}
-use Rattle.qtl_syntax.specs.Tree.{items_of, item_of}
+use Rattle.std.proofs.Common.{◌≡◌, None, length, refl, arith}
+use Rattle.qtl_syntax.specs.Tree.{items_of}
 use Rattle.wellformed.specs.Faults.{first_count, first_name}
 use Rattle.wellformed.proofs.Accepted.{accepted_kept}
 use Rattle.wellformed.proofs.SoundProps.{accepted_sound, sound_props, some_props}

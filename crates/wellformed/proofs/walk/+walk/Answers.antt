@@ -1,4 +1,4 @@
-use Rattle.std.proofs.Common.{length-append, subst, arith, length, ◌++◌}
+use Rattle.std.proofs.Common.{subst}
 use Rattle.qtl_syntax.specs.Tree.{formula_of}
 use Rattle.wellformed.specs.Faults.{nodes_in}
 use Rattle.wellformed.specs.Walk.{names_in_scope, is_bad_at, IsFirst}

@@ -1,6 +1,6 @@
 use Rattle.std.proofs.Common.{sym, ◌∙◌}
 use Rattle.wellformed.specs.Walk.{pass_of}
-use Rattle.wellformed.proofs.ItemSteps.{next_item, this_item}
+use Rattle.wellformed.proofs.ItemSteps.{next_item}
 use Rattle.wellformed.proofs.walk.first_failing.Goals as goal
 
 pub loop-m-preserved : goal.loop-m-preserved
