@@ -94,6 +94,13 @@ impl NodeTable {
         Handle { number: 1 }
     }
 
+    /// How many nodes fit.
+    pub fn room(&self) -> u32
+        ensures { result ≡ self.now.room }
+    {
+        self.room
+    }
+
     /// How many nodes are held.
     pub fn live(&self) -> u32
         ensures live { result ≡ live_of self.now }
