@@ -96,7 +96,8 @@ impl NodeTable {
 
     /// How many nodes fit.
     pub fn room(&self) -> u32
-        ensures { result ≡ self.now.room }
+        ensures room { result ≡ self.now.room }
+        ensures bound { result ≤ 4194304 }
     {
         self.room
     }
