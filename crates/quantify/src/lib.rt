@@ -1,0 +1,9 @@
+//! Quantification over bits of diagrams.
+
+#![tactic(auto)]
+
+mod bit;
+mod block;
+
+pub use bit::quantify_bit;
+pub use block::{BlockFull, quantify_block};
