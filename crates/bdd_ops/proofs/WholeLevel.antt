@@ -13,12 +13,12 @@ use Rattle.bdd_ops.specs.declared.store.NodesFull.{NodesFull}
 use Rattle.bdd_ops.specs.Applied.{Makes, IsSound}
 use Rattle.bdd_ops.specs.Level.{at_level, merged, merge_number, child, Remembers, Changes}
 use Rattle.bdd_ops.specs.Shelf.{Shelf, handle_pairs, IsLarge}
-use Rattle.bdd_ops.specs.Operates.{Operates}
+use Rattle.bdd_ops.specs.Operates.{AllStay, Operates}
 use Rattle.bdd_ops.proofs.Memo.{sound_empty}
 use Rattle.bdd_ops.proofs.LevelLaws.{restrict-is}
 use Rattle.bdd_ops.proofs.Rest.{remembers_none}
 use Rattle.bdd_ops.proofs.LevelBounds.{change_bounded}
-use Rattle.bdd_ops.proofs.Tries.{first_ok, stay_collected, again_ok, again_full}
+use Rattle.bdd_ops.proofs.Tries.{stay_valid, tried_before, first_ok, stay_collected, again_ok, again_full}
 
 -- an empty memo holds nothing wrong
 pub nothing_wrong : (x : Shelf) (t : Table) (m : Memo ℕ) → record { table = t; memo = m } ≡ x → x.memo.pairs ≡ [] → IsSound t m.pairs
@@ -36,28 +36,34 @@ pub same_first : (xs : List ℕ) (d : ℕ) → 0 < length xs → slice_index_or 
 same_first [] d l = absurd (omega (arith, l))
 same_first (x ∷ xs) d l = refl
 
-module _ (f : Tree → Tree) (operands roots : List ℕ) (some : 0 < length operands) (h : ℕ) (eh : h ≡ slice_index_or operands 0 0) (t : Table) (vo : AllValid t operands) (vr : AllValid t roots) (p : Table) (e : p ≡ t) where
+module _ (f : Tree → Tree) (operands roots : List ℕ) (some : 0 < length operands) (h : ℕ) (eh : h ≡ slice_index_or operands 0 0) (t r : Table) (room : r.room ≡ t.room) (so : AllStay t r operands) (sr : AllStay t r roots) (p : Table) (e : p ≡ r) where
   abbrev first : ℕ
   first = slice_index_or operands 0 0
 
+  -- what was begun over a store that was made ready
+  began : (new : Table) (z : Result ℕ NodesFull) → Operates (f (tree_of r first)) operands roots r new z → Operates (f (tree_of t first)) operands roots t new z
+  began new z o = tried_before (f (tree_of t first)) operands roots t r new z room so sr (subst (λ x. Operates x operands roots r new z) (ap f (so 0 some).1) o)
+
   -- the first try made the tree
   pub first_made : (new : Table) (made : ℕ) → Makes (f (tree_of p h)) p new (Ok made) → Operates (f (tree_of t first)) operands roots t new (Ok made)
-  first_made new made m = first_ok (f (tree_of t first)) operands roots t new made vo vr (subst (λ x. Makes (f (tree_of x first)) x new (Ok made)) e (subst (λ y. Makes (f (tree_of p y)) p new (Ok made)) eh m))
+  first_made new made m =
+      began new (Ok made) (first_ok (f (tree_of r first)) operands roots r new made (stay_valid t r operands so) (stay_valid t r roots sr)
+      (subst (λ x. Makes (f (tree_of x first)) x new (Ok made)) e (subst (λ y. Makes (f (tree_of p y)) p new (Ok made)) eh m)))
 
   module _ (mid w new : Table) (k : KeepsTrees p mid) (c : Collects mid w roots operands) where
-    kept : KeepsTrees t mid
+    kept : KeepsTrees r mid
     kept = subst (λ x. KeepsTrees x mid) e k
 
-    same : f (tree_of w h) ≡ f (tree_of t first)
-    same = ap (λ x. f (tree_of w x)) eh ∙ ap f ((stay_collected (f (tree_of t first)) operands roots t mid w new kept vo vr c).0 0 some).1
+    same : f (tree_of w h) ≡ f (tree_of r first)
+    same = ap (λ x. f (tree_of w x)) eh ∙ ap f ((stay_collected (f (tree_of r first)) operands roots r mid w new kept (stay_valid t r operands so) (stay_valid t r roots sr) c).0 0 some).1
 
     -- the second try made it
     pub again_made : (made : ℕ) → Makes (f (tree_of w h)) w new (Ok made) → Operates (f (tree_of t first)) operands roots t new (Ok made)
-    again_made made m = again_ok (f (tree_of t first)) operands roots t mid w new kept vo vr c made (subst (λ x. Makes x w new (Ok made)) same m)
+    again_made made m = began new (Ok made) (again_ok (f (tree_of r first)) operands roots r mid w new kept (stay_valid t r operands so) (stay_valid t r roots sr) c made (subst (λ x. Makes x w new (Ok made)) same m))
 
     -- nor had the second try room
     pub again_none : (x : NodesFull) (z : Full) → Makes (f (tree_of w h)) w new (Err z) → Operates (f (tree_of t first)) operands roots t new (Err x)
-    again_none x z m = again_full (f (tree_of t first)) operands roots t mid w new kept vo vr c x z (subst (λ y. Makes y w new (Err z)) same m)
+    again_none x z m = began new (Err x) (again_full (f (tree_of r first)) operands roots r mid w new kept (stay_valid t r operands so) (stay_valid t r roots sr) c x z (subst (λ y. Makes y w new (Err z)) same m))
 
 -- one handle is a list of valid ones
 pub one_valid : (t : Table) (h : ℕ) → IsValid t h → AllValid t (h ∷ [])

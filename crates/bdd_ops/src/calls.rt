@@ -57,12 +57,11 @@ pub fn apply<L: Ledger>(
     ensures entries { store.new.memo.entries ≡ store.old.memo.entries }
     ensures sound { IsSound store.new.table store.new.memo.pairs }
 {
-    let _held = store.table.live();
-    store.prepare();
+    let operands = [u, v];
+    store.make_ready(&operands, roots);
     if let Ok(made) = apply_inside(store, op, u, v, steps) {
         return Ok(made);
     }
-    let operands = [u, v];
     store.tidy(roots, &operands);
     match apply_inside(store, op, u, v, steps) {
         Ok(made) => Ok(made),

@@ -54,6 +54,7 @@ pub fn change_level<L: Ledger>(
     ensures sound { IsSound store.new.table store.new.memo.pairs }
 {
     let h = operands[0];
+    store.make_ready(operands, roots);
     store.forget();
     if let Ok(made) = level_inside(store, merge, level, h, steps) {
         return Ok(made);

@@ -12,6 +12,8 @@ mod op;
 mod parts;
 mod reading;
 mod store;
+#[cfg(test)]
+mod tests;
 
 pub use calls::{apply, apply_inside, not};
 pub use level::Merge;

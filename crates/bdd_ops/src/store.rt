@@ -6,6 +6,7 @@ ghost use Rattle.node_table.specs.Table.{held, live_of, IsShared};
 ghost use Rattle.node_table.specs.Collects.{AllValid, Collects};
 ghost use Rattle.bdd_ops.specs.Applied.{IsSound};
 ghost use Rattle.bdd_ops.specs.Shelf.{IsLarge, HasRoom};
+ghost use Rattle.bdd_ops.specs.Operates.{AllStay};
 ghost use Rattle.bdd_ops.specs.Lent.{LendsTable, LendsMemo};
 
 use mon_base::NoMemory;
@@ -25,7 +26,12 @@ pub struct Store {
     pub(crate) cache: OpCache<Handle>,
     /// Whether the memo is known to hold results alone.
     pub(crate) sound: bool,
+    /// The number of nodes held at which the next operation collects before it begins.
+    limit: u32,
 }
+
+/// The least number of nodes held at which an operation collects before it begins.
+const CROWD: u32 = 8192;
 
 impl Model for Store {
     ghost use Rattle.bdd_ops.specs.Shelf.{Shelf};
@@ -56,6 +62,7 @@ impl Store {
             table: NodeTable::open(alloc, nodes)?,
             cache: OpCache::open(alloc, entries)?,
             sound: false,
+            limit: CROWD,
         })
     }
 
@@ -136,5 +143,25 @@ impl Store {
         self.table.collect(roots, more);
         self.cache.begin();
         self.sound = true;
+        self.limit = self.table.live().saturating_mul(4).max(CROWD);
+    }
+
+    /// Makes the store ready for an operation. It collects where four times as many nodes are held as the last
+    /// collection left, since a small table is a fast one, and else only looks after the memo.
+    pub fn make_ready(&mut self, operands: &[Handle], roots: &[Handle])
+        requires operands { AllValid self.old.table operands.now }
+        requires roots { AllValid self.old.table roots.now }
+        ensures nodes { self.new.table.room ≡ self.old.table.room }
+        ensures operands { AllStay self.old.table self.new.table operands.now }
+        ensures roots { AllStay self.old.table self.new.table roots.now }
+        ensures entries { self.new.memo.entries ≡ self.old.memo.entries }
+        ensures sound { IsSound self.new.table self.new.memo.pairs }
+        ensures room { IsLarge self.new → HasRoom self.new }
+    {
+        if self.table.live() >= self.limit {
+            self.tidy(roots, operands);
+        } else {
+            self.prepare();
+        }
     }
 }

@@ -4,6 +4,8 @@
 
 mod bit;
 mod block;
+#[cfg(test)]
+mod tests;
 
 pub use bit::quantify_bit;
 pub use block::{BlockFull, quantify_block};
