@@ -1,7 +1,7 @@
 -- Answers at once: an operand is a leaf, or both are one.
-use Rattle.std.proofs.Common.{◌≡◌, ◌⊎◌, ℕ, List, Bool, true, false, cond, refl, sym, ap, ◌∙◌, inl, inr}
+use Rattle.std.proofs.Common.{◌≡◌, ◌⊎◌, ℕ, List, Bool, true, false, cond, sym, ap, ◌∙◌, inl, inr}
 use Rattle.std.specs.Prelude.{Option, Some, None, MatchOption}
-use Rattle.node_tree.specs.Tree.{Tree, value}
+use Rattle.node_tree.specs.Tree.{value}
 use Rattle.node_table.specs.Table.{Table, tree_of, IsValid, IsShared}
 use Rattle.bdd_ops.specs.Apply.{leaf_of, apply_tree}
 use Rattle.bdd_ops.specs.Parts.{IsBranch}

@@ -1,6 +1,6 @@
 -- How many pairs an operation can have in a memo, how deep a table's trees are, and so what a try costs at most.
 use Rattle.std.proofs.Common.{◌≡◌, ◌⊎◌, ℕ, zero, suc, ◌+◌, ◌*◌, ◌<◌, ◌≤◌, List, [], ◌∷◌, ◌++◌, length, cond, refl, ap, sym, ◌∙◌, arith, subst, ⊎_elim, inl, inr}
-use Rattle.std.specs.Prelude.{Bool, true, false, ◌==◌, ◌||◌, nat_eq, nat_le, Option, Some, None, Result}
+use Rattle.std.specs.Prelude.{Bool, true, false, ◌||◌, nat_eq, nat_le, Option, Some, None, Result}
 use Rattle.std.specs.Option.{is_some}
 use Rattle.std.specs.Set.{is_member}
 use Rattle.std.specs.Map.{keys_of}
@@ -14,7 +14,7 @@ use Rattle.std.proofs.lemmas.List.Folds.{list_any-append}
 use Rattle.std.proofs.lemmas.Map.Keys.{IsDistinct-cons}
 use Rattle.std.proofs.lemmas.Map.Made.{length-le_from_is_member, is_some-lookup}
 use Rattle.node_tree.specs.Tree.{Tree, Zero, One, Branch, tree_eq, branches, depth}
-use Rattle.node_tree.proofs.Same.{tree_eq-refl, same_tree}
+use Rattle.node_tree.proofs.Same.{same_tree}
 use Rattle.node_tree.proofs.Counting.{tree_eq_laws}
 use Rattle.node_table.specs.declared.node.Node.{Node}
 use Rattle.node_table.specs.declared.table.Full.{Full}
@@ -26,8 +26,7 @@ use Rattle.op_cache.specs.Memo.{Memo, result_at, IsMemo}
 use Rattle.op_cache.proofs.Places.{places_laws}
 use Rattle.bdd_ops.specs.declared.op.Op.{Op}
 use Rattle.bdd_ops.specs.Numbers.{number_of, place}
-use Rattle.bdd_ops.specs.Applied.{Grows, IsSound, LeavesOthers, depths, unfinished, Costs, Applies}
-use Rattle.bdd_ops.proofs.Memo.{same_op}
+use Rattle.bdd_ops.specs.Applied.{IsSound, LeavesOthers, depths, unfinished, Applies}
 use Rattle.bdd_ops.proofs.Stages.{unfinished-le}
 
 pub left_or : (a b : Bool) → a ≡ true → (a || b) ≡ true

@@ -1,7 +1,6 @@
 -- Cubes are ordered and reduced, and hold where all their literals do.
 use Rattle.std.proofs.Common.{◌≡◌, ℕ, ◌+◌, ◌<◌, ◌≤◌, List, [], ◌∷◌, length, take, drop, ◌-◌, cond, refl, ap, sym, ◌∙◌, arith, subst}
-use Rattle.std.specs.Prelude.{Bool, true, false, ◌&&◌, not, ◌↔◌, Result, Ok, Err, IfOk, OnOk, OnErr, IsErr, slice_index_or}
-use Rattle.std.specs.Set.{is_member}
+use Rattle.std.specs.Prelude.{Bool, true, false, ◌&&◌, not, Result, Ok, Err, IsErr, slice_index_or}
 use Rattle.std.proofs.lemmas.List.{take_all}
 use Rattle.node_tree.specs.Tree.{Tree, Zero, One, join, bit, value, branches, IsOrderedFrom, top}
 use Rattle.node_tree.proofs.Joins.{join_low, join_high, top_from_ordered}
@@ -9,9 +8,9 @@ use Rattle.node_tree.proofs.Setting.{join_ordered, join_value}
 use Rattle.bdd_ops.specs.declared.literals.Literal.{Literal}
 use Rattle.bdd_ops.specs.Cube.{literal_tree, cube_tree, holds, all_hold, AscendFrom}
 use Rattle.node_table.specs.declared.table.Full.{Full}
-use Rattle.node_table.specs.Table.{Table, tree_of, IsValid, need, KeepsTrees, HoldsAlso, IsShared}
+use Rattle.node_table.specs.Table.{Table, tree_of, IsShared}
 use Rattle.bdd_ops.specs.Applied.{Grows, Makes}
-use Rattle.bdd_ops.proofs.Growing.{In, IsPart, grows_none, widened, chained, made_grows, full_back}
+use Rattle.bdd_ops.proofs.Growing.{In, IsPart, grows_none, widened, chained, full_back}
 use Rattle.bdd_ops.proofs.Stages.{never, made_ok}
 
 literal-value : (l : Literal) (t : Tree) (bits : List Bool) → value (literal_tree l t) bits ≡ (holds l bits && value t bits)
@@ -52,12 +51,6 @@ literal-part l t q m = by_bit l.bit
     by_bit false = join_low l.level t Zero q m
 
 -- ---- making a cube
-
-pub literal-made : (l : Literal) (t w : Table) (rest : ℕ) (r : Result ℕ Full) (whole : Tree) → whole ≡ literal_tree l (tree_of t rest) → IfOk r (λ h. IsValid w h) → IfOk r (λ h. tree_of w h ≡ whole) → KeepsTrees t w → OnOk r (HoldsAlso t w whole) → OnErr r (w ≡ t) → IsShared w →
-    (IsErr r ↔ (t.room < need t whole)) → Makes (literal_tree l (tree_of t rest)) t w r
-literal-made l t w rest (Ok h) whole e v i k also gone s full = subst (λ x. Makes x t w (Ok h)) e (record { valid = v; is = i; grows = made_grows t w whole k also s; full = full })
-literal-made l t w rest (Err x) whole e v i k also gone s full =
-    subst (λ y. Makes y t w (Err x)) e (record { valid = tt; is = tt; grows = subst (λ y. Grows t y whole) (sym gone) (grows_none t whole (subst IsShared gone s)); full = full })
 
 pub low-made : (l : Literal) (t : Tree) → l.bit ≡ false → join l.level t Zero ≡ literal_tree l t
 low-made l t e = ap (λ b. cond b (join l.level Zero t) (join l.level t Zero)) (sym e)

@@ -1,11 +1,10 @@
 -- The stages of an operation that takes a level out, one after another.
 use Rattle.std.proofs.Common.{◌≡◌, ◌≢◌, ◌⊎◌, ℕ, ◌+◌, ◌<◌, ◌≤◌, refl, ap, sym, ◌∙◌, arith, subst, inl, inr}
-use Rattle.std.specs.Prelude.{Bool, true, false, Some, None, Result, Ok, Err, IsErr, length}
-use Rattle.node_tree.specs.Tree.{Tree, Branch, branches, join, top, depth, IsOrderedFrom, IsReduced}
+use Rattle.std.specs.Prelude.{Some, None, Result, Ok, Err, IsErr, length}
+use Rattle.node_tree.specs.Tree.{Tree, branches, join, top, depth, IsOrderedFrom}
 use Rattle.node_tree.proofs.Joins.{join_low, join_high, ordered_from_top, top_from_ordered}
 use Rattle.node_table.specs.declared.table.Full.{Full}
 use Rattle.node_table.specs.Table.{Table, tree_of, IsValid, need, KeepsTrees, HoldsAlso, IsShared}
-use Rattle.op_cache.specs.declared.key.Place.{Place}
 use Rattle.op_cache.specs.Memo.{Memo, result_at, Adds}
 use Rattle.bdd_ops.specs.declared.level.Merge.{Merge}
 use Rattle.bdd_ops.specs.Numbers.{number_of}
@@ -13,10 +12,10 @@ use Rattle.bdd_ops.specs.Parts.{IsBranch}
 use Rattle.bdd_ops.specs.Applied.{Grows, Makes, IsSound, depths, unfinished, Costs}
 use Rattle.bdd_ops.specs.Level.{at_level, merged, merge_number, inner, Remembers, LeavesRest, Changes, Merges, IsAbove}
 use Rattle.bdd_ops.proofs.Growing.{In, IsPart, keeps_same, grows_none, widened, chained, made_grows, full_back}
-use Rattle.bdd_ops.proofs.Memo.{sound_kept, costs_none, costs_dropped}
+use Rattle.bdd_ops.proofs.Memo.{sound_kept, sound_other, costs_none}
 use Rattle.bdd_ops.proofs.Stages.{never, made_ok, unfinished-le}
 use Rattle.bdd_ops.proofs.LevelLaws.{at_level-ordered, at_level-here, at_level-above, at_level-below}
-use Rattle.bdd_ops.proofs.Rest.{numbers_differ, at_one, remembers_kept, remembers_added, sound_beside, rest_same, rest_wider, rest_chained, rest_below, rest_added, level_low, level_both, level_high, level_stored, costs_wider}
+use Rattle.bdd_ops.proofs.Rest.{merge_above, numbers_differ, at_one, remembers_kept, remembers_added, rest_same, rest_wider, rest_chained, rest_below, rest_added, level_low, level_both, level_high, level_stored, costs_wider}
 
 unfinished-mono : (r : Result ℕ Full) (a b : ℕ) → a ≤ b → unfinished r a ≤ unfinished r b
 unfinished-mono (Ok h) a b l = omega arith
@@ -208,7 +207,7 @@ module _ (k : Merge) (level h : ℕ) (t : Table) (m : Memo ℕ) (s : ℕ) (small
                 }
               where
                 sounds : (y : Table) (g : ℕ) (p : Memo ℕ) → IsSound y o.pairs → (Adds o.pairs (at_one (merge_number k) h) g p.pairs ⊎ ((p ≡ o) × (length o.pairs ≡ o.entries))) → IsSound y p.pairs
-                sounds y g p before (inl adds) = sound_beside k y o.pairs p.pairs h g before adds
+                sounds y g p before (inl adds) = sound_other y o.pairs p.pairs (at_one (merge_number k) h) g (merge_above k) before adds
                 sounds y g p before (inr same) = subst (λ z. IsSound y z) (sym (ap (λ (z : Memo ℕ). z.pairs) same.0)) before
 
                 now : (y : Table) (g : ℕ) (p : Memo ℕ) → IsValid y g → tree_of y g ≡ Whole → Grows t y Whole → Remembers F (merge_number k) y o.pairs → (Adds o.pairs (at_one (merge_number k) h) g p.pairs ⊎ ((p ≡ o) × (length o.pairs ≡ o.entries))) → Remembers F (merge_number k) y p.pairs

@@ -1,15 +1,14 @@
 -- What grows in a table, and what has room there.
-use Rattle.std.proofs.Common.{◌≡◌, ℕ, ◌+◌, ◌<◌, ◌≤◌, List, ◌++◌, length, refl, ap, sym, ◌∙◌, arith, subst, ⊎_elim}
+use Rattle.std.proofs.Common.{◌≡◌, ℕ, ◌<◌, ◌≤◌, List, ◌++◌, refl, ap, sym, ◌∙◌, arith, subst, ⊎_elim}
 use Rattle.std.specs.Prelude.{Bool, true, ◌||◌}
-use Rattle.std.specs.Set.{is_member, distinct_count}
-use Rattle.std.specs.List.{list_any}
+use Rattle.std.specs.Set.{is_member}
 use Rattle.std.proofs.lemmas.Bool.{or_cases}
 use Rattle.std.proofs.Math.Bool.{or-true}
 use Rattle.std.proofs.lemmas.List.Folds.{list_any-append}
 use Rattle.std.proofs.lemmas.Map.Made.{distinct_count-le}
 use Rattle.node_tree.specs.Tree.{Tree, tree_eq, branches}
 use Rattle.node_tree.proofs.Counting.{distinct_count-le_from_members}
-use Rattle.node_table.specs.Table.{Table, tree_of, IsValid, held, live_of, need, KeepsTrees, HoldsAlso, IsShared}
+use Rattle.node_table.specs.Table.{Table, tree_of, IsValid, held, need, KeepsTrees, HoldsAlso, IsShared}
 use Rattle.node_table.proofs.Sharing.{live-held}
 use Rattle.bdd_ops.specs.Applied.{Grows}
 

@@ -14,7 +14,7 @@ use Rattle.std.proofs.lemmas.Map.Made.{length-le_from_is_member, is_some-lookup}
 use Rattle.node_tree.specs.Tree.{Tree, depth}
 use Rattle.node_table.specs.declared.node.Node.{Node}
 use Rattle.node_table.specs.declared.table.Full.{Full}
-use Rattle.node_table.specs.Table.{Table, node_at, tree_of, IsValid, numbers, live_of, IsShared}
+use Rattle.node_table.specs.Table.{Table, node_at, tree_of, IsValid, numbers, IsShared}
 use Rattle.node_table.proofs.Sharing.{within}
 use Rattle.op_cache.specs.declared.key.Place.{Place}
 use Rattle.op_cache.specs.Keys.{same_place}

@@ -1,6 +1,6 @@
 -- What a memo of operations keeps, and what its steps are counted by.
-use Rattle.std.proofs.Common.{◌≡◌, ◌⊎◌, ℕ, ◌+◌, ◌*◌, ◌<◌, ◌≤◌, List, [], length, cond, refl, ap, sym, ◌∙◌, arith, subst, inl, inr}
-use Rattle.std.specs.Prelude.{Bool, true, false, ◌==◌, ◌≢◌, ◌↔◌, Option, Some, None}
+use Rattle.std.proofs.Common.{◌≡◌, ◌⊎◌, ℕ, ◌+◌, ◌<◌, ◌≤◌, List, [], length, cond, refl, ap, sym, ◌∙◌, arith, subst, inl, inr}
+use Rattle.std.specs.Prelude.{Bool, true, false, ◌==◌, ◌↔◌, Some, None}
 use Rattle.node_tree.specs.Tree.{depth}
 use Rattle.node_table.specs.Table.{Table, tree_of, IsValid, KeepsTrees}
 use Rattle.op_cache.specs.declared.key.Place.{Place}
@@ -61,6 +61,24 @@ sound_added t old new op u v h s a b c e adds = record {
       ] refl (sym (adds.results (place o l r)) ∙ p);
 }
 
+pub op_below : (op : Op) → number_of op < 5
+op_below And = omega arith
+op_below Or = omega arith
+op_below AndNot = omega arith
+op_below Implies = omega arith
+op_below Iff = omega arith
+
+-- a pair of another number leaves the operations' results
+pub sound_other : (t : Table) (old new : List (Place × ℕ)) (p : Place) (h : ℕ) → 5 ≤ p.op → IsSound t old → Adds old p h new → IsSound t new
+sound_other t old new p h above s adds = record {
+  each = λ op a b r e. s.each op a b r (sym (elsewhere op a b) ∙ e);
+}
+  where
+    elsewhere : (op : Op) (a b : ℕ) → result_at new (place op a b) ≡ result_at old (place op a b)
+    elsewhere op a b =
+        adds.results (place op a b) ∙ elim (same_place p (place op a b)) as (λ x. same_place p (place op a b) ≡ x → cond x (Some h) (result_at old (place op a b)) ≡ result_at old (place op a b))
+        [ true ↦ λ i. absurd (let e = ap (λ (q : Place). q.op) (same p (place op a b) i) in let l = op_below op in omega (arith, above, e, l)) | false ↦ λ i. refl ] refl
+
 pub others_same : (t : Table) (pairs : List (Place × ℕ)) (op u v : ℕ) → LeavesOthers t pairs pairs op u v
 others_same t pairs op u v = record { other_op = λ q n. refl; deeper = λ q a b d. refl }
 
@@ -98,6 +116,11 @@ pub stored_cases : (r : Bool) (old new : Memo ℕ) (p : Place) (h : ℕ) → ((r
     Adds old.pairs p h new.pairs ⊎ ((new ≡ old) × (length old.pairs ≡ old.entries))
 stored_cases true old new p h full a b = inl (a refl)
 stored_cases false old new p h full a b = inr (b refl, full.0 refl)
+
+-- what a call of `store` left, of another number
+pub sound_stored : (t : Table) (old new : Memo ℕ) (p : Place) (h : ℕ) (r : Bool) → 5 ≤ p.op → IsSound t old.pairs → (r ≡ true → Adds old.pairs p h new.pairs) → (r ≡ false → new ≡ old) → IsSound t new.pairs
+sound_stored t old new p h true above s a b = sound_other t old.pairs new.pairs p h above s (a refl)
+sound_stored t old new p h false above s a b = subst (λ (m : Memo ℕ). IsSound t m.pairs) (sym (b refl)) s
 
 -- ---- steps
 

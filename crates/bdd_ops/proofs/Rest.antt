@@ -1,31 +1,23 @@
 -- The memo of an operation that takes a level out, beside that of the operations on two trees.
-use Rattle.std.proofs.Common.{◌≡◌, ◌≢◌, ◌⊎◌, ℕ, ◌+◌, ◌*◌, ◌<◌, ◌≤◌, List, [], length, cond, refl, ap, sym, ◌∙◌, arith, subst, inl, inr}
-use Rattle.std.specs.Prelude.{Bool, true, false, Option, Some, None}
+use Rattle.std.proofs.Common.{◌≡◌, ◌≢◌, ◌⊎◌, ℕ, ◌+◌, ◌<◌, ◌≤◌, List, [], length, cond, refl, ap, sym, ◌∙◌, arith, subst, inl, inr}
+use Rattle.std.specs.Prelude.{true, false, Some, None}
 use Rattle.node_tree.specs.Tree.{Tree, depth}
 use Rattle.node_table.specs.Table.{Table, tree_of, IsValid, KeepsTrees}
 use Rattle.op_cache.specs.declared.key.Place.{Place}
 use Rattle.op_cache.specs.Keys.{same_place}
 use Rattle.op_cache.specs.Memo.{Memo, result_at, Adds}
 use Rattle.bdd_ops.specs.declared.op.Op.{Op}
-use Rattle.bdd_ops.specs.declared.op.Op.TheVariants.{And, Or, AndNot, Implies, Iff}
 use Rattle.bdd_ops.specs.declared.level.Merge.{Merge}
 use Rattle.bdd_ops.specs.declared.level.Merge.TheVariants.{Low, High, Either, Both}
-use Rattle.bdd_ops.specs.Numbers.{number_of, place}
+use Rattle.bdd_ops.specs.Numbers.{number_of}
 use Rattle.bdd_ops.specs.Parts.{IsBranch}
-use Rattle.bdd_ops.specs.Applied.{IsSound, LeavesOthers, Costs, depths}
+use Rattle.bdd_ops.specs.Applied.{LeavesOthers, Costs, depths}
 use Rattle.bdd_ops.specs.Level.{merge_number, Remembers, LeavesRest}
-use Rattle.bdd_ops.proofs.Memo.{same}
+use Rattle.bdd_ops.proofs.Memo.{same, op_below}
 
 -- ---- numbers
 
-op_below : (op : Op) → number_of op < 5
-op_below And = omega arith
-op_below Or = omega arith
-op_below AndNot = omega arith
-op_below Implies = omega arith
-op_below Iff = omega arith
-
-merge_above : (k : Merge) → 5 ≤ merge_number k
+pub merge_above : (k : Merge) → 5 ≤ merge_number k
 merge_above Low = omega arith
 merge_above High = omega arith
 merge_above Either = omega arith
@@ -67,17 +59,6 @@ remembers_added f n t old new u h s vu bu vh e adds = record {
         | false ↦ λ i p. s.each a b k p
       ] refl (sym (adds.results (record { op = n; left = a; right = b })) ∙ p);
 }
-
--- a pair of another number leaves the operations' results
-pub sound_beside : (k : Merge) (t : Table) (old new : List (Place × ℕ)) (u h : ℕ) → IsSound t old → Adds old (at_one (merge_number k) u) h new → IsSound t new
-sound_beside k t old new u h s adds = record {
-  each = λ op a b r p. s.each op a b r (sym (elsewhere op a b) ∙ p);
-}
-  where
-    elsewhere : (op : Op) (a b : ℕ) → result_at new (place op a b) ≡ result_at old (place op a b)
-    elsewhere op a b =
-        adds.results (place op a b) ∙ elim (same_place (at_one (merge_number k) u) (place op a b)) as (λ x. same_place (at_one (merge_number k) u) (place op a b) ≡ x → cond x (Some h) (result_at old (place op a b)) ≡ result_at old (place op a b))
-        [ true ↦ λ i. absurd (numbers_differ k op (ap (λ (q : Place). q.op) (same (at_one (merge_number k) u) (place op a b) i))) | false ↦ λ i. refl ] refl
 
 -- ---- what stays
 

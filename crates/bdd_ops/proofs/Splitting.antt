@@ -3,7 +3,7 @@ use Rattle.std.proofs.Common.{◌≡◌, ◌⊎◌, ℕ, ◌+◌, ◌<◌, ◌�
 use Rattle.std.specs.Prelude.{Bool, true, false, cond, ◌==◌, nat_lt}
 use Rattle.std.proofs.lemmas.Bool.{cases_order, cases_lt}
 use Rattle.std.proofs.lemmas.Bool.Decides.{Decides-eqb, Decides-ltb, nat_tests}
-use Rattle.node_tree.specs.Tree.{Tree, Zero, One, Branch, IsOrderedFrom, IsOrdered, join, top, depth}
+use Rattle.node_tree.specs.Tree.{Tree, Zero, One, Branch, IsOrderedFrom, join, top, depth}
 use Rattle.node_tree.proofs.Joins.{ordered_from_top, top_from_ordered}
 use Rattle.node_tree.proofs.Setting.{weaken}
 use Rattle.node_table.specs.declared.handle.Branch as branch

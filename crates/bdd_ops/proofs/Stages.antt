@@ -1,8 +1,7 @@
 -- The stages of an operation, one after another.
 use Rattle.std.proofs.Common.{◌≡◌, ◌⊎◌, ℕ, ◌+◌, ◌<◌, ◌≤◌, refl, ap, sym, ◌∙◌, arith, subst, inl, inr}
-use Rattle.std.specs.Prelude.{Bool, true, false, ◌↔◌, Some, None, Result, Ok, Err, IfOk, IsErr, OnOk, OnErr, length}
-use Rattle.std.specs.Set.{is_member}
-use Rattle.node_tree.specs.Tree.{Tree, tree_eq, branches, join, top, depth}
+use Rattle.std.specs.Prelude.{true, false, ◌↔◌, Some, None, Result, Ok, Err, IfOk, IsErr, OnOk, OnErr, length}
+use Rattle.node_tree.specs.Tree.{Tree, branches, join, top, depth}
 use Rattle.node_tree.proofs.Joins.{join_low, join_high}
 use Rattle.node_table.specs.declared.table.Full.{Full}
 use Rattle.node_table.specs.Table.{Table, tree_of, IsValid, need, KeepsTrees, HoldsAlso, IsShared}
@@ -23,6 +22,11 @@ never e = cc
 -- a tree that is made has no want of room
 pub made_ok : (t w : Table) (tree : Tree) (h : ℕ) → IsValid w h → tree_of w h ≡ tree → Grows t w tree → Makes tree t w (Ok h)
 made_ok t w tree h v e g = record { valid = v; is = e; grows = g; full = (λ x. absurd (never x), λ f. (let n = fits_in t w tree h g v e in absurd (omega (arith, n, f)))) }
+
+-- what `make` says, of the tree that joins two others
+pub makes_node : (t w : Table) (tree : Tree) (r : Result ℕ Full) → IfOk r (λ h. IsValid w h) → IfOk r (λ h. tree_of w h ≡ tree) → KeepsTrees t w → OnOk r (HoldsAlso t w tree) → OnErr r (w ≡ t) → IsShared w → (IsErr r ↔ (t.room < need t tree)) → Makes tree t w r
+makes_node t w tree (Ok h) v i k also gone s full = record { valid = v; is = i; grows = made_grows t w tree k also s; full = full }
+makes_node t w tree (Err x) v i k also gone s full = record { valid = tt; is = tt; grows = subst (λ y. Grows t y tree) (sym gone) (grows_none t tree (subst IsShared gone s)); full = full }
 
 pub unfinished-le : (r : Result ℕ Full) (n : ℕ) → unfinished r n ≤ n
 unfinished-le (Ok h) n = omega arith

@@ -1,6 +1,6 @@
 -- Two tries of an operation: what they need, and what they keep.
-use Rattle.std.proofs.Common.{◌≡◌, ◌⊎◌, ℕ, zero, suc, ◌+◌, ◌<◌, ◌≤◌, List, [], ◌∷◌, ◌++◌, length, map, refl, ap, sym, ◌∙◌, arith, subst, ⊎_elim}
-use Rattle.std.specs.Prelude.{true, false, ◌||◌, ◌↔◌, Result, Ok, Err, IfOk, IsErr, slice_index_or}
+use Rattle.std.proofs.Common.{◌≡◌, ◌⊎◌, ℕ, zero, suc, ◌<◌, ◌≤◌, List, [], ◌∷◌, ◌++◌, length, map, refl, ap, sym, ◌∙◌, arith, ⊎_elim}
+use Rattle.std.specs.Prelude.{true, false, ◌||◌, Result, Ok, Err, slice_index_or}
 use Rattle.std.specs.Set.{is_member}
 use Rattle.std.proofs.lemmas.Bool.{or_cases}
 use Rattle.std.proofs.Math.Bool.{or-true}
@@ -9,7 +9,7 @@ use Rattle.std.proofs.lemmas.Map.Made.{distinct_count-le}
 use Rattle.node_tree.specs.Tree.{Tree, tree_eq, branches, branches_of, size}
 use Rattle.node_tree.proofs.Counting.{distinct_count-le_from_members}
 use Rattle.node_table.specs.declared.table.Full.{Full}
-use Rattle.node_table.specs.Table.{Table, tree_of, IsValid, held, need, KeepsTrees, IsShared}
+use Rattle.node_table.specs.Table.{Table, tree_of, IsValid, held, KeepsTrees, IsShared}
 use Rattle.node_table.specs.Collects.{AllValid, Collects}
 use Rattle.node_table.proofs.Sharing.{live-held}
 use Rattle.bdd_ops.specs.declared.store.NodesFull.{NodesFull}

@@ -1,9 +1,9 @@
 -- The tree of an operation is ordered and reduced, and has the operation's value at all bits.
-use Rattle.std.proofs.Common.{◌≡◌, ◌≢◌, ℕ, ◌+◌, ◌<◌, ◌≤◌, List, Bool, true, false, cond, refl, sym, ap, ◌∙◌, arith, ◌==◌, subst}
+use Rattle.std.proofs.Common.{◌≡◌, ℕ, ◌+◌, ◌<◌, ◌≤◌, List, Bool, true, false, cond, refl, sym, ap, ◌∙◌, arith, ◌==◌}
 use Rattle.std.specs.Prelude.{nat_lt}
 use Rattle.std.proofs.lemmas.Bool.{cond_both}
 use Rattle.std.proofs.lemmas.Bool.Decides.{Decides-eqb, Decides-ltb, nat_tests}
-use Rattle.node_tree.specs.Tree.{Tree, Zero, One, Branch, tree_eq, bit, value, join, IsOrderedFrom, IsOrdered, IsReduced}
+use Rattle.node_tree.specs.Tree.{Tree, Zero, One, Branch, bit, value, join, IsOrderedFrom, IsOrdered, IsReduced}
 use Rattle.node_tree.proofs.OneTree.{one_tree}
 use Rattle.node_tree.proofs.Setting.{weaken, join_ordered, join_value}
 use Rattle.node_tree.proofs.Same.{join_reduced}

@@ -1,14 +1,12 @@
 -- Going down a block.
-use Rattle.std.proofs.Common.{◌≡◌, ◌≢◌, ◌⊎◌, ℕ, zero, suc, ◌+◌, ◌-◌, ◌^◌, ◌<◌, ◌≤◌, List, cond, refl, ap, sym, ◌∙◌, arith, subst, inl, inr}
+use Rattle.std.proofs.Common.{◌≡◌, ◌≢◌, ◌⊎◌, ℕ, zero, suc, ◌+◌, ◌-◌, ◌^◌, ◌<◌, List, cond, refl, ap, sym, ◌∙◌, arith, subst, inl, inr}
 use Rattle.std.specs.Prelude.{Bool, true, false, nat_le, nat_eq}
 use Rattle.std.proofs.lemmas.Bool.Decides.{eqb_tells}
 use Rattle.node_tree.specs.Tree.{Tree, Zero, One, Branch, value, IsOrderedFrom, IsReduced}
 use Rattle.node_tree.specs.Restrict.{restrict, with_bit}
 use Rattle.node_tree.proofs.Setting.{weaken, restrict_ordered, restrict_value}
-use Rattle.node_table.specs.declared.handle.Branch as branch
 use Rattle.node_table.specs.Table.{Table, tree_of, IsValid}
-use Rattle.node_table.specs.Tells.{TellsTree}
-use Rattle.bdd_ops.specs.Level.{at_level, merged, child}
+use Rattle.bdd_ops.specs.Level.{merged, child}
 use Rattle.bdd_ops.specs.Reading.{set_block, with_code}
 use Rattle.bdd_ops.proofs.LevelLaws.{at_level-below, restrict-is}
 

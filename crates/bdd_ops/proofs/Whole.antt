@@ -1,18 +1,17 @@
 -- Whole operations on two trees.
-use Rattle.std.proofs.Common.{◌≡◌, ℕ, ◌+◌, ◌*◌, ◌<◌, ◌≤◌, List, [], ◌∷◌, length, ap, ◌∙◌, arith, subst}
+use Rattle.std.proofs.Common.{◌≡◌, ℕ, ◌+◌, ◌*◌, ◌≤◌, List, [], ◌∷◌, ap, ◌∙◌, arith, subst}
 use Rattle.std.specs.Prelude.{Bool, Result, Ok, Err}
 use Rattle.node_tree.specs.Tree.{value}
 use Rattle.node_table.specs.declared.table.Full.{Full}
 use Rattle.node_table.specs.Table.{Table, tree_of, IsValid, KeepsTrees, IsShared}
 use Rattle.node_table.specs.Collects.{Collects}
-use Rattle.op_cache.specs.declared.key.Place.{Place}
 use Rattle.op_cache.specs.Memo.{Memo, IsMemo}
 use Rattle.bdd_ops.specs.declared.op.Op.{Op}
 use Rattle.bdd_ops.specs.declared.store.NodesFull.{NodesFull}
 use Rattle.bdd_ops.specs.Apply.{apply_tree}
 use Rattle.bdd_ops.specs.Numbers.{truth_of}
 use Rattle.bdd_ops.specs.Applied.{Makes, op_tree, Applies}
-use Rattle.bdd_ops.specs.Shelf.{Shelf, handle_pairs, IsLarge, HasRoom, IsBounded}
+use Rattle.bdd_ops.specs.Shelf.{Shelf, handle_pairs, HasRoom}
 use Rattle.bdd_ops.specs.Operates.{AllStay, Operates}
 use Rattle.bdd_ops.proofs.Values.{apply-value}
 use Rattle.bdd_ops.proofs.Bounds.{try_bounded}

@@ -11,7 +11,7 @@ use Rattle.op_cache.specs.Memo.{Memo, IsMemo}
 use Rattle.bdd_ops.specs.declared.level.Merge.{Merge}
 use Rattle.bdd_ops.specs.declared.store.NodesFull.{NodesFull}
 use Rattle.bdd_ops.specs.Applied.{Makes, IsSound}
-use Rattle.bdd_ops.specs.Level.{at_level, merged, merge_number, child, Remembers, Changes}
+use Rattle.bdd_ops.specs.Level.{at_level, merged, child, Remembers, Changes}
 use Rattle.bdd_ops.specs.Shelf.{Shelf, handle_pairs, IsLarge}
 use Rattle.bdd_ops.specs.Operates.{AllStay, Operates}
 use Rattle.bdd_ops.proofs.Memo.{sound_empty}

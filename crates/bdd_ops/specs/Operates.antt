@@ -1,5 +1,5 @@
 -- What a whole operation leaves: it collects where the table is full, and refuses only where that doesn't help.
-use Rattle.std.specs.Prelude.{◌≡◌, ℕ, ◌+◌, ◌*◌, ◌<◌, ◌≤◌, ◌↔◌, List, ◌∷◌, ◌++◌, map, length, slice_index_or, Result, IfOk, IsErr}
+use Rattle.std.specs.Prelude.{◌≡◌, ℕ, ◌<◌, ◌↔◌, List, ◌∷◌, ◌++◌, map, length, slice_index_or, Result, IfOk, IsErr}
 use Rattle.node_tree.specs.Tree.{Tree, IsOrdered, IsReduced, size}
 use Rattle.node_table.specs.Table.{Table, tree_of, IsValid, IsShared}
 use Rattle.bdd_ops.specs.declared.store.NodesFull.{NodesFull}

@@ -1,5 +1,5 @@
 -- What a handle is, and its parts at a level.
-use Rattle.std.specs.Prelude.{◌≡◌, ℕ, if◌then◌else◌, nat_eq}
+use Rattle.std.specs.Prelude.{ℕ, if◌then◌else◌, nat_eq}
 use Rattle.node_tree.specs.Tree.{Tree, Zero, One, Branch}
 use Rattle.node_table.specs.declared.handle.Branch as branch
 

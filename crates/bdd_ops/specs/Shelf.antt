@@ -1,5 +1,5 @@
 -- What contracts see of a store, and when its memo has room.
-use Rattle.std.specs.Prelude.{ℕ, ◌+◌, ◌*◌, ◌<◌, ◌≤◌, length}
+use Rattle.std.specs.Prelude.{ℕ, ◌+◌, ◌*◌, ◌≤◌, length}
 use Rattle.node_table.specs.Table.{Table}
 use Rattle.op_cache.specs.Memo.{Memo}
 

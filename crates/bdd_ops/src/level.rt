@@ -56,13 +56,22 @@ struct Above {
 }
 
 /// The node of a handle, where its level is the given one or stands above it. It costs one step.
-fn node_to<L: Ledger>(table: &NodeTable, h: Handle, level: u16, steps: &mut Steps<L>) -> Option<Above>
+fn node_to<L: Ledger>(
+    table: &NodeTable,
+    h: Handle,
+    level: u16,
+    steps: &mut Steps<L>,
+) -> Option<Above>
     requires { IsValid table.now h }
     ensures node { MatchOption result (level < top (tree_of table.now h)) (λ a. IsAbove table.now h level a.level a.low a.high) }
     ensures cost { steps.new ≡ steps.old + 1 }
 {
     match table.branch(h, steps) {
-        Branch::Node { level: at, low, high } if at <= level => Some(Above {
+        Branch::Node {
+            level: at,
+            low,
+            high,
+        } if at <= level => Some(Above {
             level: at,
             low,
             high,

@@ -27,13 +27,24 @@ pub fn eval<L: Ledger>(table: &NodeTable, h: Handle, bits: &[bool], steps: &mut 
         Branch::Zero => false,
         Branch::One => true,
         Branch::Node { level, low, high } => {
-            eval(table, if bit(bits, level) { high } else { low }, bits, steps)
+            eval(
+                table,
+                if bit(bits, level) { high } else { low },
+                bits,
+                steps,
+            )
         }
     }
 }
 
 /// The tree with a bit set, where no level stands before that of the bit. It costs one step.
-fn step_down<L: Ledger>(table: &NodeTable, h: Handle, level: u32, bit: bool, steps: &mut Steps<L>) -> Handle
+fn step_down<L: Ledger>(
+    table: &NodeTable,
+    h: Handle,
+    level: u32,
+    bit: bool,
+    steps: &mut Steps<L>,
+) -> Handle
     requires valid { IsValid table.now h }
     requires below { IsOrderedFrom level (tree_of table.now h) }
     ensures valid { IsValid table.now result }
@@ -41,7 +52,11 @@ fn step_down<L: Ledger>(table: &NodeTable, h: Handle, level: u32, bit: bool, ste
     ensures cost { steps.new ≡ steps.old + 1 }
 {
     match table.branch(h, steps) {
-        Branch::Node { level: at, low, high } if at as u32 == level => if bit { high } else { low },
+        Branch::Node {
+            level: at,
+            low,
+            high,
+        } if at as u32 == level => if bit { high } else { low },
         _ => h,
     }
 }

@@ -1,17 +1,19 @@
 //! A table and the memo of its operations.
 
-ghost use Rattle.std.specs.Prelude.{◌≡◌, [], ◌+◌, ◌*◌, ◌≤◌, IfOk};
+ghost use Rattle.std.specs.Prelude.{◌≡◌, [], ◌+◌, ◌*◌, ◌<◌, ◌≤◌, ◌↔◌, true, false, None, length, IfOk};
 ghost use Rattle.std.specs.Borrow.{sem};
-ghost use Rattle.node_table.specs.Table.{held, live_of, IsShared};
+ghost use Rattle.node_tree.specs.Tree.{join, top};
+ghost use Rattle.node_table.specs.Table.{tree_of, IsValid, held, live_of, IsShared};
+ghost use Rattle.op_cache.specs.Memo.{result_at, Adds};
 ghost use Rattle.node_table.specs.Collects.{AllValid, Collects};
-ghost use Rattle.bdd_ops.specs.Applied.{IsSound};
+ghost use Rattle.bdd_ops.specs.Applied.{IsSound, Makes};
 ghost use Rattle.bdd_ops.specs.Shelf.{IsLarge, HasRoom};
 ghost use Rattle.bdd_ops.specs.Operates.{AllStay};
 ghost use Rattle.bdd_ops.specs.Lent.{LendsTable, LendsMemo};
 
 use mon_base::NoMemory;
-use node_table::{Handle, NodeTable};
-use op_cache::OpCache;
+use node_table::{Full, Handle, NodeTable};
+use op_cache::{Key, OpCache};
 use std::alloc::Global;
 use std::marker::Model;
 
@@ -79,6 +81,40 @@ impl Store {
         ensures shared { IsShared self.now.table }
     {
         self.table.live()
+    }
+
+    /// `NodeTable::make`, which leaves the memo right where it was.
+    pub fn make(&mut self, level: u16, low: Handle, high: Handle) -> Result<Handle, Full>
+        requires low { IsValid self.old.table low }
+        requires high { IsValid self.old.table high }
+        requires below_low { level < top (tree_of self.old.table low) }
+        requires below_high { level < top (tree_of self.old.table high) }
+        ensures made { Makes (join level (tree_of self.old.table low) (tree_of self.old.table high)) self.old.table self.new.table result }
+        ensures memo { self.new.memo ≡ self.old.memo }
+    {
+        self.table.make(level, low, high)
+    }
+
+    /// What was stored for a key since all was forgotten.
+    pub fn find(&self, key: Key<Handle>) -> Option<Handle>
+        ensures { result ≡ result_at self.now.memo.pairs (record { op = key.op; left = key.left; right = key.right }) }
+    {
+        self.cache.find(key)
+    }
+
+    /// Stores the result of a key that has none, of an operation of a crate above. False where the memo holds all that
+    /// it can, and then nothing changes. The memo is right where it was: numbers from 5 on are no operation on two
+    /// trees.
+    pub fn remember(&mut self, key: Key<Handle>, answer: Handle) -> bool
+        requires absent { result_at self.old.memo.pairs (record { op = key.op; left = key.left; right = key.right }) ≡ None }
+        requires other { 5 ≤ key.op }
+        ensures full { (result ≡ false) ↔ (length self.old.memo.pairs ≡ self.old.memo.entries) }
+        ensures stored { result ≡ true → Adds self.old.memo.pairs (record { op = key.op; left = key.left; right = key.right }) answer self.new.memo.pairs }
+        ensures kept { result ≡ false → self.new.memo ≡ self.old.memo }
+        ensures entries { self.new.memo.entries ≡ self.old.memo.entries }
+        ensures table { self.new.table ≡ self.old.table }
+    {
+        self.cache.store(key, answer)
     }
 
     /// The table, to be changed. The memo is then no longer known to be right.

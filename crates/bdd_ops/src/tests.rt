@@ -25,7 +25,10 @@ fn live(store: &Store, answer: Result<Handle, NodesFull>) -> Option<u32> {
 }
 
 /// Over two nodes: a cube, another one beside it as a root, and another one in its place.
-fn in_two<L: Ledger>(alloc: Global, blank: Blank) -> Result<(Option<u32>, Option<u32>, Option<u32>), NoMemory>
+fn in_two<L: Ledger>(
+    alloc: Global,
+    blank: Blank,
+) -> Result<(Option<u32>, Option<u32>, Option<u32>), NoMemory>
     requires name { blank.name ≡ L.name }
     requires parts { blank.parts ≡ L.parts }
     requires some { 0 < L.parts }
@@ -36,7 +39,12 @@ fn in_two<L: Ledger>(alloc: Global, blank: Blank) -> Result<(Option<u32>, Option
         return Ok((None, None, None));
     };
     let first = Some(store.table().live());
-    let beside = cube(&mut store, &[at(0, false), at(1, true)], &[root], &mut steps);
+    let beside = cube(
+        &mut store,
+        &[at(0, false), at(1, true)],
+        &[root],
+        &mut steps,
+    );
     let second = live(&store, beside);
     let alone = cube(&mut store, &[at(0, false), at(1, true)], &[], &mut steps);
     Ok((first, second, live(&store, alone)))
@@ -58,7 +66,12 @@ fn in_three<L: Ledger>(alloc: Global, blank: Blank) -> Result<(Option<u32>, Opti
         return Ok((None, None));
     };
     let first = Some(store.table().live());
-    let beside = cube(&mut store, &[at(0, false), at(1, false)], &[root], &mut steps);
+    let beside = cube(
+        &mut store,
+        &[at(0, false), at(1, false)],
+        &[root],
+        &mut steps,
+    );
     Ok((first, live(&store, beside)))
 }
 

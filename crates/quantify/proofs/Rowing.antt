@@ -1,9 +1,9 @@
 -- Quantification over a block, row after row.
-use Rattle.std.proofs.Common.{◌≡◌, ℕ, zero, suc, ◌+◌, ◌-◌, ◌*◌, ◌<◌, ◌≤◌, ◌⊎◌, List, [], ◌∷◌, ◌++◌, length, map, ap, sym, ◌∙◌, refl, arith, subst, ⊎_elim, add-one}
-use Rattle.std.specs.Prelude.{Bool, true, false, Result, Ok, Err, IfOk, OnOk, IsErr, slice_index_or}
+use Rattle.std.proofs.Common.{◌≡◌, ℕ, zero, suc, ◌+◌, ◌*◌, ◌<◌, ◌≤◌, List, [], ◌∷◌, ◌++◌, map, ap, sym, ◌∙◌, refl, arith, subst, ⊎_elim, add-one}
+use Rattle.std.specs.Prelude.{Bool, true, false, Result, Ok, Err, IfOk, IsErr, slice_index_or}
 use Rattle.std.proofs.lemmas.Bool.{cases_lt}
 use Rattle.std.proofs.Math.Nat.{mul-le-mul_left}
-use Rattle.node_tree.specs.Tree.{Tree, value, size}
+use Rattle.node_tree.specs.Tree.{value, size}
 use Rattle.node_tree.specs.Restrict.{with_bit}
 use Rattle.node_table.specs.Table.{Table, tree_of, IsValid, IsShared}
 use Rattle.node_table.specs.Collects.{AllValid}

@@ -1,6 +1,6 @@
 -- What quantification over a block leaves.
 use Rattle.std.specs.Prelude.{◌≡◌, ℕ, suc, ◌+◌, ◌<◌, ◌≤◌, Bool, List, [], ◌∷◌, map, Result, IfOk, OnOk, IfErr}
-use Rattle.node_tree.specs.Tree.{Tree, IsOrdered, IsReduced, size}
+use Rattle.node_tree.specs.Tree.{IsOrdered, IsReduced, size}
 use Rattle.node_table.specs.Table.{Table, tree_of, IsValid, IsShared}
 use Rattle.bdd_ops.specs.Operates.{AllStay}
 use Rattle.quantify.specs.declared.block.BlockFull.{BlockFull}

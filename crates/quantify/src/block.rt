@@ -59,7 +59,9 @@ fn rows_from<L: Ledger>(
     let operands = [current, h];
     match change_level(store, merge_of(all), level, &operands, roots, steps) {
         Ok(next) => rows_from(store, all, h, block, done + 1, next, roots, steps),
-        Err(NodesFull) => Err(BlockFull { row: done as u32 + 1 }),
+        Err(NodesFull) => Err(BlockFull {
+            row: done as u32 + 1,
+        }),
     }
 }
 

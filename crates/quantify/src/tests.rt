@@ -12,7 +12,11 @@ use std::sync::ledger::{Blank, Ledger};
 use std::test::Fail;
 
 /// Whether the disjunction over both bits of the cube 01 is the leaf that is true, in a table of so many nodes.
-fn over_both<L: Ledger>(alloc: Global, nodes: u32, blank: Blank) -> Result<Option<Result<bool, BlockFull>>, NoMemory>
+fn over_both<L: Ledger>(
+    alloc: Global,
+    nodes: u32,
+    blank: Blank,
+) -> Result<Option<Result<bool, BlockFull>>, NoMemory>
     requires two { 2 ≤ nodes }
     requires bound { nodes ≤ 4194304 }
     requires name { blank.name ≡ L.name }

@@ -1,4 +1,4 @@
-use Rattle.std.proofs.Common.{◌≡◌, ℕ, ◌<◌, sym, ap, ◌∙◌, subst, refl, rules}
+use Rattle.std.proofs.Common.{ℕ, ◌<◌, sym, ap, ◌∙◌, subst, refl, rules}
 use Rattle.op_cache.specs.Memo.{result_at, Adds}
 use Rattle.bdd_ops.specs.Numbers.{number_of}
 use Rattle.bdd_ops.specs.Applied.{depths}

@@ -1,4 +1,4 @@
-use Rattle.std.proofs.Common.{◌≡◌, ℕ, ◌<◌, sym, ap, ◌∙◌, subst, refl, rules}
+use Rattle.std.proofs.Common.{ℕ, ◌<◌, sym, ap, ◌∙◌, subst, refl, rules}
 use Rattle.op_cache.specs.Memo.{result_at, Adds}
 use Rattle.bdd_ops.specs.Applied.{depths}
 use Rattle.bdd_ops.specs.Level.{merge_number}
@@ -43,4 +43,3 @@ returns g t c =
     done c.args.merge c.args.level c.args.h c.args.table.now c.args.cache.now c.args.steps.now (search rules) c.live-held.ensures.shared c.requires.valid c.requires.sound c.requires.remembers c.in-Some.node.level c.in-Some.node.low c.in-Some.node.high c.in-Some.ensures.node c.node_to.new.steps c.node_to.ensures.cost (c.if-node-level.false) c.level_parts.new.table c.level_parts.new.cache c.level_parts.new.steps c.level_parts.result c.level_parts.ensures c.level_parts-2.new.table c.level_parts-2.new.cache c.level_parts-2.new.steps c.level_parts-2.result c.in_ok-low.low c.in_ok-low.was c.level_parts-2.ensures c.in_ok-high.high c.in_ok-high.was c.make.new.self c.in_ok-made.made c.store.new.self c.in_ok-made.ensures.valid c.in_ok-made.ensures.tree c.make.ensures.kept c.in_ok-made.ensures.held c.make.ensures.shared c.store.ensures.entries
     (stored_cases c.store.result c.level_parts-2.new.cache c.store.new.self (record { op = merge_number c.args.merge; left = c.args.h; right = c.args.h }) c.in_ok-made.made (c.store.ensures.full)
     (λ e. subst (λ k. Adds c.level_parts-2.new.cache.pairs (record { op = k.op; left = k.left; right = k.right }) c.in_ok-made.made c.store.new.self.pairs) c.key-2.ensures (c.store.ensures.stored e)) c.store.ensures.kept)
-

@@ -1,4 +1,4 @@
-use Rattle.std.proofs.Common.{ℕ, ◌+◌, ◌-◌, ◌*◌, ◌<◌, [], ◌∷◌, refl, subst, arith, rules}
+use Rattle.std.proofs.Common.{ℕ, ◌+◌, ◌-◌, ◌*◌, ◌<◌, [], ◌∷◌, refl, subst, arith}
 use Rattle.bdd_ops.specs.Shelf.{handle_pairs}
 use Rattle.quantify.proofs.Rowing.{bit_made, all_done, refused, later, chained, rows_cost, row_cost, no_cost}
 use Rattle.quantify.proofs.block.+rows_from.Goals as goal
