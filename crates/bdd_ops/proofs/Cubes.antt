@@ -58,12 +58,6 @@ low-made l t e = ap (λ b. cond b (join l.level Zero t) (join l.level t Zero)) (
 pub high-made : (l : Literal) (t : Tree) → l.bit ≡ true → join l.level Zero t ≡ literal_tree l t
 high-made l t e = ap (λ b. cond b (join l.level Zero t) (join l.level t Zero)) (sym e)
 
--- the rest of a cube stands below its first literal
-pub cube-below : (l : Literal) (ls : List Literal) (n : ℕ) (t : Tree) → l.level < 65536 → AscendFrom n (l ∷ ls) → t ≡ cube_tree ls → l.level < top t
-cube-below l ls n t small a e =
-    let o : IsOrderedFrom (l.level + 1) t = subst (IsOrderedFrom (l.level + 1)) (sym e) (cube-ordered ls (l.level + 1) a.1) in
-    let h = top_from_ordered t (l.level + 1) (omega (arith, small)) o in omega (arith, h)
-
 -- the rest of a cube had no room
 pub cube-err : (l : Literal) (ls : List Literal) (t w : Table) (r z : Result ℕ Full) → IsShared t → IsErr r → IsErr z → Makes (cube_tree ls) t w r → Makes (cube_tree (l ∷ ls)) t w z
 cube-err l ls t w r (Ok h) s e i m = absurd (never i)

@@ -65,9 +65,6 @@ remembers_added f n t old new u h s vu bu vh e adds = record {
 pub rest_same : (t : Table) (pairs : List (Place × ℕ)) (a b u v : ℕ) → LeavesRest t pairs pairs a b u v
 rest_same t pairs a b u v = record { other_op = λ q m n. refl; deeper = λ q i j d. refl }
 
-pub rest_of_others : (t : Table) (old new : List (Place × ℕ)) (n u v : ℕ) → LeavesOthers t old new n u v → LeavesRest t old new n n u v
-rest_of_others t old new n u v o = record { other_op = λ q i j. o.other_op q i; deeper = o.deeper }
-
 pub rest_wider : (t : Table) (old new : List (Place × ℕ)) (a n u v : ℕ) → LeavesRest t old new n n u v → LeavesRest t old new a n u v
 rest_wider t old new a n u v o = record { other_op = λ q i j. o.other_op q j j; deeper = o.deeper }
 

@@ -18,9 +18,6 @@ use Rattle.bdd_ops.proofs.Values.{apply-ordered}
 eqb_itself : (n : ℕ) → (n == n) ≡ true
 eqb_itself n = (Decides-eqb n n).1 refl
 
-eqb_apart : (m n : ℕ) → m < n → (m == n) ≡ false
-eqb_apart m n l = grind (arith, nat_tests)
-
 eqb_apart_above : (m n : ℕ) → n < m → (m == n) ≡ false
 eqb_apart_above m n l = grind (arith, nat_tests)
 
@@ -134,53 +131,6 @@ depth-at_top l One s e = absurd (omega (arith, e))
 depth-at_top l (Branch m x y) s e =
     let p = (Decides-eqb m l).1 e in
     subst (λ b. (depth (cond b x (Branch m x y)) < depth (Branch m x y)) × (depth (cond b y (Branch m x y)) < depth (Branch m x y))) (sym p) (omega arith, omega arith)
-
--- ---- what is told of handles
-
-pub top-told : (t : Table) (h : ℕ) (b : branch.Branch) → TellsTree t h b → top (tree_of t h) ≡ level_of b
-top-told t h branch.TheVariants.Zero e = ap top e
-top-told t h branch.TheVariants.One e = ap top e
-top-told t h (branch.TheVariants.Node l x y) e = ap top e.0
-
-low-told : (t : Table) (h l : ℕ) (b : branch.Branch) → IsValid t h → TellsTree t h b → IsValid t (low_of b h l) × (tree_of t (low_of b h l) ≡ low_at l (tree_of t h))
-low-told t h l branch.TheVariants.Zero v e = (v, e ∙ sym (ap (low_at l) e))
-low-told t h l branch.TheVariants.One v e = (v, e ∙ sym (ap (low_at l) e))
-low-told t h l (branch.TheVariants.Node m x y) v e =
-    elim (m == l) as (λ c. (m == l) ≡ c → IsValid t (cond c x h) × (tree_of t (cond c x h) ≡ low_at l (tree_of t h))) [
-      | true ↦ λ i. (e.1, sym (ap (low_at l) e.0 ∙ ap (λ c. cond c (tree_of t x) (Branch m (tree_of t x) (tree_of t y))) i))
-      | false ↦ λ i. (v, e.0 ∙ sym (ap (low_at l) e.0 ∙ ap (λ c. cond c (tree_of t x) (Branch m (tree_of t x) (tree_of t y))) i))
-    ] refl
-
-high-told : (t : Table) (h l : ℕ) (b : branch.Branch) → IsValid t h → TellsTree t h b → IsValid t (high_of b h l) × (tree_of t (high_of b h l) ≡ high_at l (tree_of t h))
-high-told t h l branch.TheVariants.Zero v e = (v, e ∙ sym (ap (high_at l) e))
-high-told t h l branch.TheVariants.One v e = (v, e ∙ sym (ap (high_at l) e))
-high-told t h l (branch.TheVariants.Node m x y) v e =
-    elim (m == l) as (λ c. (m == l) ≡ c → IsValid t (cond c y h) × (tree_of t (cond c y h) ≡ high_at l (tree_of t h))) [
-      | true ↦ λ i. (e.2, sym (ap (high_at l) e.0 ∙ ap (λ c. cond c (tree_of t y) (Branch m (tree_of t x) (tree_of t y))) i))
-      | false ↦ λ i. (v, e.0 ∙ sym (ap (high_at l) e.0 ∙ ap (λ c. cond c (tree_of t y) (Branch m (tree_of t x) (tree_of t y))) i))
-    ] refl
-
--- a handle of a branch is told as a node
-pub node-told : (t : Table) (h : ℕ) (b : branch.Branch) → TellsTree t h b → IsBranch (tree_of t h) → IsNode b
-node-told t h branch.TheVariants.Zero e n = subst IsBranch e n
-node-told t h branch.TheVariants.One e n = subst IsBranch e n
-node-told t h (branch.TheVariants.Node l x y) e n = tt
-
-pub either-told : (t : Table) (u v : ℕ) (a b : branch.Branch) → TellsTree t u a → TellsTree t v b → IsBranch (tree_of t u) ⊎ IsBranch (tree_of t v) → IsNode a ⊎ IsNode b
-either-told t u v a b p q (inl n) = inl (node-told t u a p n)
-either-told t u v a b p q (inr n) = inr (node-told t v b q n)
-
-pub splits-told : (t : Table) (u v : ℕ) (a b : branch.Branch) (s : Split) → IsValid t u → IsValid t v → TellsTree t u a → TellsTree t v b → s.level ≡ min (level_of a) (level_of b) → s.level < 65536
-    → s.left_low ≡ low_of a u s.level → s.left_high ≡ high_of a u s.level → s.right_low ≡ low_of b v s.level → s.right_high ≡ high_of b v s.level → Splits t u v s
-splits-told t u v a b s vu vv p q e small w x y z =
-    record {
-      least = (let i = top-told t u a p in let j = top-told t v b q in omega (arith, i, j, e));
-      small = small;
-      left_low = subst (λ h. IsValid t h × (tree_of t h ≡ low_at s.level (tree_of t u))) (sym w) (low-told t u s.level a vu p);
-      left_high = subst (λ h. IsValid t h × (tree_of t h ≡ high_at s.level (tree_of t u))) (sym x) (high-told t u s.level a vu p);
-      right_low = subst (λ h. IsValid t h × (tree_of t h ≡ low_at s.level (tree_of t v))) (sym y) (low-told t v s.level b vv q);
-      right_high = subst (λ h. IsValid t h × (tree_of t h ≡ high_at s.level (tree_of t v))) (sym z) (high-told t v s.level b vv q);
-    }
 
 -- ---- the parts of an operation
 

@@ -13,21 +13,6 @@ use Rattle.bdd_ops.proofs.LevelLaws.{at_level-below, restrict-is}
 restrict-below : (l : ℕ) (v : Bool) (t : Tree) → IsOrderedFrom (l + 1) t → IsReduced t → restrict l v t ≡ t
 restrict-below l v t o r = sym (restrict-is l v t) ∙ at_level-below (merged (child v)) l t o r
 
--- a node at the level leads to a child
-pub down_here : (t : Table) (h l m low high : ℕ) (v : Bool) → (tree_of t h ≡ Branch m (tree_of t low) (tree_of t high)) × IsValid t low × IsValid t high → m ≡ l → IsValid t (cond v high low) × (tree_of t (cond v high low) ≡ restrict l v (tree_of t h))
-down_here t h l m low high v e i = by_bit v
-  where
-    at : (v : Bool) → restrict l v (tree_of t h) ≡ cond v (tree_of t high) (tree_of t low)
-    at v = ap (restrict l v) e.0 ∙ told (eqb_tells m l)
-      where
-        told : ((nat_eq m l ≡ true) × (m ≡ l)) ⊎ ((nat_eq m l ≡ false) × (m ≢ l)) → restrict l v (Branch m (tree_of t low) (tree_of t high)) ≡ cond v (tree_of t high) (tree_of t low)
-        told (inl p) = rw p.0 refl
-        told (inr p) = absurd (p.1 i)
-
-    by_bit : (v : Bool) → IsValid t (cond v high low) × (tree_of t (cond v high low) ≡ restrict l v (tree_of t h))
-    by_bit true = (e.2, sym (at true))
-    by_bit false = (e.1, sym (at false))
-
 -- a tree that has no node at the level stays
 pub down_none : (l : ℕ) (v : Bool) (t : Tree) → IsOrderedFrom (l + 1) t → IsReduced t → t ≡ restrict l v t
 down_none l v t o r = sym (restrict-below l v t o r)
