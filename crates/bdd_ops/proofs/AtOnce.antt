@@ -14,10 +14,14 @@ module _ (f : Bool → Bool → Bool) (t : Table) (u v : ℕ) (s : IsShared t) (
   abbrev Chosen : ℕ → Bool → Bool → Option ℕ → Type 0
   Chosen h x y r = MatchOption r (IsBranch (tree_of t h)) (λ k. IsValid t k × ((bits : List Bool) → value (tree_of t k) bits ≡ cond (value (tree_of t h) bits) y x))
 
-  answered : (h : ℕ) (x y : Bool) (r : Option ℕ) → ((bits : List Bool) → cond (value (tree_of t h) bits) y x ≡ f (value (tree_of t u) bits) (value (tree_of t v) bits)) → (IsBranch (tree_of t h) → IsBranch (tree_of t u) ⊎ IsBranch (tree_of t v)) → Chosen h x y r → Answers r
+  answered : (h : ℕ) (x y : Bool) (r : Option ℕ) → ((bits : List Bool) → cond (value (tree_of t h) bits) y x ≡ f (value (tree_of t u) bits) (value (tree_of t v) bits)) → (IsBranch (tree_of t
+      h) → IsBranch (tree_of t u) ⊎ IsBranch (tree_of t v)) → Chosen h x y r → Answers r
   answered h x y None e n c = n c
-  answered h x y (Some k) e n c =
-      (c.0, apply-from_values f (tree_of t u) (tree_of t v) (tree_of t k) (s.ordered u vu) (s.reduced u vu) (s.ordered v vv) (s.reduced v vv) (s.ordered k c.0) (s.reduced k c.0) (λ bits. c.1 bits ∙ e bits))
+  answered h x y (Some k) e n c = (
+    c.0,
+    apply-from_values f (tree_of t u) (tree_of t v) (tree_of t k) (s.ordered u vu) (s.reduced u vu) (s.ordered v vv) (s.reduced v vv) (s.ordered k c.0) (s.reduced k c.0) (λ bits. c.1
+        bits ∙ e bits),
+  )
 
   by_right : (a b x y : Bool) → x ≡ f a false → y ≡ f a true → cond b y x ≡ f a b
   by_right a true x y p q = q

@@ -110,7 +110,8 @@ pub keys-length : (pairs : List (Place × ℕ)) → length (keys_of pairs) ≡ l
 keys-length pairs = length-map pairs (λ (p : Place × ℕ). p.0)
 
 -- an operation's place is one of its handles' places
-pub place_in_grid : (op : Op) (t : Table) (pairs : List (Place × ℕ)) → IsSound t pairs → (q : Place) (o : Option ℕ) → result_at pairs q ≡ o → is_some o ≡ true → q.op ≡ number_of op → is_member same_place (grid (number_of op) (handles t) (handles t)) q ≡ true
+pub place_in_grid : (op : Op) (t : Table) (pairs : List (Place × ℕ)) → IsSound t pairs → (q : Place) (o : Option ℕ) → result_at pairs q ≡ o → is_some o ≡ true → q.op ≡ number_of op →
+    is_member same_place (grid (number_of op) (handles t) (handles t)) q ≡ true
 unfolding at_place
 place_in_grid op t pairs sound q None e w i = absurd (let x : false ≡ true = w in cc)
 place_in_grid op t pairs sound q (Some h) e w i =
@@ -123,11 +124,13 @@ pub squares : (a b : ℕ) → a ≤ b → a * a ≤ b * b
 squares a b h = let x = mul-le-mul_left a h in let y = mul-le-mul_left b h in omega (arith, x, y)
 
 -- an operation's pairs are no more than there are pairs of handles
-pub most_pairs : (op : Op) (u v : ℕ) (s t : Table) (old new : Memo ℕ) → IsShared t → IsMemo new → IsSound t new.pairs → LeavesOthers s old.pairs new.pairs (number_of op) u v → length new.pairs ≤ length old.pairs + (t.room + 2) * (t.room + 2)
+pub most_pairs : (op : Op) (u v : ℕ) (s t : Table) (old new : Memo ℕ) → IsShared t → IsMemo new → IsSound t new.pairs → LeavesOthers s old.pairs new.pairs (number_of op) u v → length
+    new.pairs ≤ length old.pairs + (t.room + 2) * (t.room + 2)
 unfolding at_place
 most_pairs op u v s t old new sh memo sound others =
     let all = grid (number_of op) (handles t) (handles t) in
-    let n = length-le_from_is_member places_laws (keys_of new.pairs) (keys_of old.pairs ++ all) memo.distinct (λ q m. list_any-append (same_place q) (keys_of old.pairs) all ∙ either q m (cases_op q)) in
+    let n = length-le_from_is_member places_laws (keys_of new.pairs) (keys_of old.pairs ++ all) memo.distinct (λ q m. list_any-append (same_place q) (keys_of old.pairs) all ∙ either q m
+    (cases_op q)) in
     let l = length-append (keys_of old.pairs) all in
     let k = grid-length (number_of op) (handles t) (handles t) in
     let h = handles-length t in
@@ -157,7 +160,8 @@ spine Zero = []
 spine One = []
 spine (Branch l a b) = Branch l a b ∷ cond (nat_le (depth b) (depth a)) (spine a) (spine b)
 
-deeper_length : (l : ℕ) (a b : Tree) (c : Bool) → nat_le (depth b) (depth a) ≡ c → length (spine a) ≡ depth a → length (spine b) ≡ depth b → length (cond c (spine a) (spine b)) + 1 ≡ depth (Branch l a b)
+deeper_length : (l : ℕ) (a b : Tree) (c : Bool) → nat_le (depth b) (depth a) ≡ c → length (spine a) ≡ depth a → length (spine b) ≡ depth b → length (cond c (spine a) (spine b)) + 1 ≡ depth
+    (Branch l a b)
 deeper_length l a b true e x y = grind (arith, nat_tests)
 deeper_length l a b false e x y = grind (arith, nat_tests)
 
@@ -167,7 +171,8 @@ spine-length Zero = refl
 spine-length One = refl
 spine-length (Branch l a b) = (let h = deeper_length l a b (nat_le (depth b) (depth a)) refl (spine-length a) (spine-length b) in omega (arith, h))
 
-one_inside : (a b q : Tree) (c : Bool) → (is_member tree_eq (spine a) q ≡ true → is_member tree_eq (branches a) q ≡ true) → (is_member tree_eq (spine b) q ≡ true → is_member tree_eq (branches b) q ≡ true) →
+one_inside : (a b q : Tree) (c : Bool) → (is_member tree_eq (spine a) q ≡ true → is_member tree_eq (branches a) q ≡ true) → (is_member tree_eq (spine b) q ≡ true → is_member tree_eq
+    (branches b) q ≡ true) →
     is_member tree_eq (cond c (spine a) (spine b)) q ≡ true → (list_any (tree_eq q) (branches a) || list_any (tree_eq q) (branches b)) ≡ true
 one_inside a b q true x y e = left_or _ _ (x e)
 one_inside a b q false x y e = right_or _ _ (y e)
@@ -177,9 +182,11 @@ unfolding spine
 spine-inside Zero q m = m
 spine-inside One q m = m
 spine-inside (Branch l a b) q m =
-    ⊎_elim (λ e. left_or _ _ e) (λ e. right_or _ _ (list_any-append (tree_eq q) (branches a) (branches b) ∙ one_inside a b q (nat_le (depth b) (depth a)) (spine-inside a q) (spine-inside b q) e)) (or_cases _ _ m)
+    ⊎_elim (λ e. left_or _ _ e) (λ e. right_or _ _ (list_any-append (tree_eq q) (branches a) (branches b) ∙ one_inside a b q (nat_le (depth b) (depth a)) (spine-inside a q) (spine-inside b
+    q) e)) (or_cases _ _ m)
 
-one_depth : (a b q : Tree) (c : Bool) → (is_member tree_eq (spine a) q ≡ true → depth q ≤ depth a) → (is_member tree_eq (spine b) q ≡ true → depth q ≤ depth b) → is_member tree_eq (cond c (spine a) (spine b)) q ≡ true → (depth q ≤ depth a) ⊎ (depth q ≤ depth b)
+one_depth : (a b q : Tree) (c : Bool) → (is_member tree_eq (spine a) q ≡ true → depth q ≤ depth a) → (is_member tree_eq (spine b) q ≡ true → depth q ≤ depth b) → is_member tree_eq (cond c
+    (spine a) (spine b)) q ≡ true → (depth q ≤ depth a) ⊎ (depth q ≤ depth b)
 one_depth a b q true x y e = inl (x e)
 one_depth a b q false x y e = inr (y e)
 
@@ -190,7 +197,8 @@ spine-depth Zero q m = absurd (let x : false ≡ true = m in cc)
 spine-depth One q m = absurd (let x : false ≡ true = m in cc)
 spine-depth (Branch l a b) q m =
     ⊎_elim (λ e. (let x = ap depth (same_tree q (Branch l a b) e) in omega (arith, x)))
-    (λ e. ⊎_elim (λ (x : depth q ≤ depth a). omega (arith, x)) (λ (x : depth q ≤ depth b). omega (arith, x)) (one_depth a b q (nat_le (depth b) (depth a)) (spine-depth a q) (spine-depth b q) e)) (or_cases _ _ m)
+    (λ e. ⊎_elim (λ (x : depth q ≤ depth a). omega (arith, x)) (λ (x : depth q ≤ depth b). omega (arith, x)) (one_depth a b q (nat_le (depth b) (depth a)) (spine-depth a q) (spine-depth b q)
+    e)) (or_cases _ _ m)
 
 none_same : (x : Tree) (ys : List Tree) → list_any (tree_eq x) ys ≡ false → AllByRecursion (λ y. tree_eq x y ≡ false) ys
 none_same x [] h = tt
@@ -214,7 +222,8 @@ spine-distinct Zero = tt
 spine-distinct One = tt
 spine-distinct (Branch l a b) =
     let c = nat_le (depth b) (depth a) in
-    IsDistinct-cons tree_eq (Branch l a b) (cond c (spine a) (spine b)) (none_same (Branch l a b) (cond c (spine a) (spine b)) (above_spine l a b c (list_any (tree_eq (Branch l a b)) (cond c (spine a) (spine b))) refl))
+    IsDistinct-cons tree_eq (Branch l a b) (cond c (spine a) (spine b))
+    (none_same (Branch l a b) (cond c (spine a) (spine b)) (above_spine l a b c (list_any (tree_eq (Branch l a b)) (cond c (spine a) (spine b))) refl))
     (one_distinct a b c (spine-distinct a) (spine-distinct b))
 
 -- a table's trees are no deeper than it has nodes
@@ -227,7 +236,8 @@ depth-le t h sh v =
 -- ---- a try
 
 -- what a try costs, where the memo has room for each pair of handles
-pub try_bounded : (op : Op) (u v : ℕ) (t w : Table) (m n : Memo ℕ) (s k : ℕ) (r : Result ℕ Full) → IsShared t → IsValid t u → IsValid t v → IsMemo n → Applies op u v t w m n s k r → length m.pairs + (t.room + 2) * (t.room + 2) < m.entries → k ≤ s + 3 * ((t.room + 2) * (t.room + 2))
+pub try_bounded : (op : Op) (u v : ℕ) (t w : Table) (m n : Memo ℕ) (s k : ℕ) (r : Result ℕ Full) → IsShared t → IsValid t u → IsValid t v → IsMemo n → Applies op u v t w m n s k r → length
+    m.pairs + (t.room + 2) * (t.room + 2) < m.entries → k ≤ s + 3 * ((t.room + 2) * (t.room + 2))
 try_bounded op u v t w m n s k r sh vu vv memo a roomy =
     let same : w.room ≡ t.room = a.made.grows.keeps.room in
     let most : length n.pairs ≤ length m.pairs + (t.room + 2) * (t.room + 2) =

@@ -69,7 +69,8 @@ cube-err l ls t w r (Err x) s e i m = record {
 }
 
 -- the rest of a cube was made, and its first literal or not
-pub cube-made : (l : Literal) (ls : List Literal) (t w x : Table) (h : ℕ) (r : Result ℕ Full) → Makes (cube_tree ls) t w (Ok h) → Makes (literal_tree l (tree_of w h)) w x r → Makes (cube_tree (l ∷ ls)) t x r
+pub cube-made : (l : Literal) (ls : List Literal) (t w x : Table) (h : ℕ) (r : Result ℕ Full) → Makes (cube_tree ls) t w (Ok h) → Makes (literal_tree l (tree_of w h)) w x r → Makes
+    (cube_tree (l ∷ ls)) t x r
 cube-made l ls t w x h r m n =
     let p : Makes (cube_tree (l ∷ ls)) w x r = subst (λ y. Makes (literal_tree l y) w x r) m.is n in
     let g = widened t w (cube_tree ls) (cube_tree (l ∷ ls)) (literal-part l (cube_tree ls)) m.grows in
@@ -84,7 +85,8 @@ no_literals [] h = refl
 no_literals (l ∷ ls) h = absurd (omega (arith, h))
 
 -- a cube by its first literal and the rest
-pub cube-again : (ls : List Literal) (d : Literal) (t w x : Table) (h : ℕ) (r : Result ℕ Full) → 1 ≤ length ls → Makes (cube_tree (take (length ls - 1) (drop 1 ls))) t w (Ok h) → Makes (literal_tree (slice_index_or ls 0 d) (tree_of w h)) w x r → Makes (cube_tree ls) t x r
+pub cube-again : (ls : List Literal) (d : Literal) (t w x : Table) (h : ℕ) (r : Result ℕ Full) → 1 ≤ length ls → Makes (cube_tree (take (length ls - 1) (drop 1 ls))) t w (Ok h) → Makes
+    (literal_tree (slice_index_or ls 0 d) (tree_of w h)) w x r → Makes (cube_tree ls) t x r
 cube-again [] d t w x h r some m n = absurd (omega (arith, some))
 cube-again (l ∷ ls) d t w x h r some m n =
     let e : length (l ∷ ls) - 1 ≡ length ls = omega arith in

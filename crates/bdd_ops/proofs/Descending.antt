@@ -22,7 +22,8 @@ unfinished-mono (Ok h) a b l = omega arith
 unfinished-mono (Err e) a b l = l
 
 -- a child takes the place
-pub takes_child : (k : Merge) (u v r : ℕ) (t : Table) (m : Memo ℕ) (s : ℕ) → IsShared t → IsSound t m.pairs → IsValid t r → tree_of t r ≡ merged k (tree_of t u) (tree_of t v) → Merges k u v t t m m s s (Ok r)
+pub takes_child : (k : Merge) (u v r : ℕ) (t : Table) (m : Memo ℕ) (s : ℕ) → IsShared t → IsSound t m.pairs → IsValid t r → tree_of t r ≡ merged k (tree_of t u) (tree_of t v) → Merges k u v
+    t t m m s s (Ok r)
 takes_child k u v r t m s sh so vr e = record {
   made = made_ok t t (merged k (tree_of t u) (tree_of t v)) r vr e (grows_none t (merged k (tree_of t u) (tree_of t v)) sh);
   sound = so;
@@ -30,7 +31,8 @@ takes_child k u v r t m s sh so vr e = record {
   costs = costs_none m s 0;
 }
 
-module _ (k : Merge) (level h : ℕ) (t : Table) (m : Memo ℕ) (s : ℕ) (small : level < 65536) (sh : IsShared t) (vh : IsValid t h) (so : IsSound t m.pairs) (re : Remembers (at_level (merged k) level) (merge_number k) t m.pairs) where
+module _ (k : Merge) (level h : ℕ) (t : Table) (m : Memo ℕ) (s : ℕ) (small : level < 65536) (sh : IsShared t) (vh : IsValid t h) (so : IsSound t m.pairs) (re : Remembers (at_level (merged k)
+    level) (merge_number k) t m.pairs) where
   abbrev F : Tree → Tree
   F = at_level (merged k) level
 
@@ -68,9 +70,12 @@ module _ (k : Merge) (level h : ℕ) (t : Table) (m : Memo ℕ) (s : ℕ) (small
     here e w n j r a = record {
       made = subst (λ x. Makes x t w r) (sym (ap F ab.tree ∙ at_level-here (merged k) at level (tree_of t lo) (tree_of t hi) e)) a.made;
       sound = a.sound;
-      remembers = remembers_kept F (merge_number k) t w m.pairs n.pairs a.made.grows.keeps (λ p i. a.others.other_op p (λ x. numbers_differ k (inner k) (sym i ∙ x)) (λ x. numbers_differ k (inner k) (sym i ∙ x))) re;
-      others = rest_wider t m.pairs n.pairs (merge_number k) (number_of (inner k)) h h (rest_below t t m.pairs n.pairs (number_of (inner k)) (number_of (inner k)) h h lo hi (keeps_same t) ab.low_valid ab.high_valid deep_both a.others);
-      costs = costs_wider m n (s + 1) j (unfinished r (depths t lo hi)) (unfinished r (depths t h h)) (subst (λ x. Costs m n x j (unfinished r (depths t lo hi))) one a.costs) (unfinished-mono r (depths t lo hi) (depths t h h) (let d = deep_both in omega (arith, d)));
+      remembers = remembers_kept F (merge_number k) t w m.pairs n.pairs a.made.grows.keeps (λ p i. a.others.other_op p (λ x. numbers_differ k (inner k) (sym i ∙ x)) (λ x. numbers_differ k
+          (inner k) (sym i ∙ x))) re;
+      others = rest_wider t m.pairs n.pairs (merge_number k) (number_of (inner k)) h h (rest_below t t m.pairs n.pairs (number_of (inner k)) (number_of (inner k)) h h lo hi (keeps_same t)
+          ab.low_valid ab.high_valid deep_both a.others);
+      costs = costs_wider m n (s + 1) j (unfinished r (depths t lo hi)) (unfinished r (depths t h h)) (subst (λ x. Costs m n x j (unfinished r (depths t lo hi))) one a.costs)
+          (unfinished-mono r (depths t lo hi) (depths t h h) (let d = deep_both in omega (arith, d)));
     }
 
     module _ (apart : at ≢ level) where
@@ -173,7 +178,13 @@ module _ (k : Merge) (level h : ℕ) (t : Table) (m : Memo ℕ) (s : ℕ) (small
                 let l = ab.above in let f = top_from_ordered u (at + 1) (omega (arith, l, small)) p in omega (arith, f)
 
             pub can_make : IsValid x low × IsValid x high × (at < top (tree_of x low)) × (at < top (tree_of x high))
-            can_make = ((b.made.grows.keeps.trees low low_made.valid).0, high_made.valid, under (tree_of x low) (tree_of t lo) low_is ordered.0, under (tree_of x high) (tree_of t hi) high_is ordered.1)
+            can_make = (
+              (b.made.grows.keeps.trees low low_made.valid).0,
+              high_made.valid,
+              under (tree_of x low) (tree_of t lo) low_is ordered.0,
+              under (tree_of x high) (tree_of t hi) high_is
+                  ordered.1,
+            )
 
             joins : join at (tree_of x low) (tree_of x high) ≡ Whole
             joins = ap (λ y. join at y (tree_of x high)) low_is ∙ ap (join at (F (tree_of t lo))) high_is ∙ sym whole
@@ -193,7 +204,8 @@ module _ (k : Merge) (level h : ℕ) (t : Table) (m : Memo ℕ) (s : ℕ) (small
             err_make y z same i f = subst (λ w. Changes k level h t w m o s s2 z) (sym same) (unmade z i f)
 
             -- the node was made, and its pair stored where there was room
-            pub done : (y : Table) (g : ℕ) (p : Memo ℕ) → IsValid y g → tree_of y g ≡ join at (tree_of x low) (tree_of x high) → KeepsTrees x y → HoldsAlso x y (join at (tree_of x low) (tree_of x high)) → IsShared y
+            pub done : (y : Table) (g : ℕ) (p : Memo ℕ) → IsValid y g → tree_of y g ≡ join at (tree_of x low) (tree_of x high) → KeepsTrees x y → HoldsAlso x y (join at (tree_of x low)
+                (tree_of x high)) → IsShared y
                 → p.entries ≡ o.entries → (Adds o.pairs (at_one (merge_number k) h) g p.pairs ⊎ ((p ≡ o) × (length o.pairs ≡ o.entries))) → Changes k level h t y m p s s2 (Ok g)
             done y g p vg e keep holds shy entries stored =
                 let grown = chained t x y Whole grows_both (made_grows x y Whole keep (subst (HoldsAlso x y) joins holds) shy) in
@@ -210,12 +222,15 @@ module _ (k : Merge) (level h : ℕ) (t : Table) (m : Memo ℕ) (s : ℕ) (small
                 sounds y g p before (inl adds) = sound_other y o.pairs p.pairs (at_one (merge_number k) h) g (merge_above k) before adds
                 sounds y g p before (inr same) = subst (λ z. IsSound y z) (sym (ap (λ (z : Memo ℕ). z.pairs) same.0)) before
 
-                now : (y : Table) (g : ℕ) (p : Memo ℕ) → IsValid y g → tree_of y g ≡ Whole → Grows t y Whole → Remembers F (merge_number k) y o.pairs → (Adds o.pairs (at_one (merge_number k) h) g p.pairs ⊎ ((p ≡ o) × (length o.pairs ≡ o.entries))) → Remembers F (merge_number k) y p.pairs
+                now : (y : Table) (g : ℕ) (p : Memo ℕ) → IsValid y g → tree_of y g ≡ Whole → Grows t y Whole → Remembers F (merge_number k) y o.pairs → (Adds o.pairs (at_one (merge_number k)
+                    h) g p.pairs ⊎ ((p ≡ o) × (length o.pairs ≡ o.entries))) → Remembers F (merge_number k) y p.pairs
                 now y g p vg is grown before (inl adds) =
                     let a = grown.keeps.trees h vh in
                     remembers_added F (merge_number k) y o.pairs p.pairs h g before a.0 (subst IsBranch (sym (a.1 ∙ ab.tree)) tt) vg (is ∙ sym (ap F a.1)) adds
                 now y g p vg is grown before (inr same) = subst (λ z. Remembers F (merge_number k) y z) (sym (ap (λ (z : Memo ℕ). z.pairs) same.0)) before
 
-                later : (g : ℕ) (p : Memo ℕ) → (Adds o.pairs (at_one (merge_number k) h) g p.pairs ⊎ ((p ≡ o) × (length o.pairs ≡ o.entries))) → LeavesRest t m.pairs p.pairs (merge_number k) (number_of (inner k)) h h
-                later g p (inl adds) = rest_chained t m.pairs o.pairs p.pairs (merge_number k) (number_of (inner k)) h h rest_both (rest_added t o.pairs p.pairs (merge_number k) (number_of (inner k)) h g adds)
+                later : (g : ℕ) (p : Memo ℕ) → (Adds o.pairs (at_one (merge_number k) h) g p.pairs ⊎ ((p ≡ o) × (length o.pairs ≡ o.entries))) → LeavesRest t m.pairs p.pairs (merge_number k)
+                    (number_of (inner k)) h h
+                later g p (inl adds) = rest_chained t m.pairs o.pairs p.pairs (merge_number k) (number_of (inner k)) h h rest_both (rest_added t o.pairs p.pairs (merge_number k) (number_of
+                    (inner k)) h g adds)
                 later g p (inr same) = subst (λ z. LeavesRest t m.pairs z (merge_number k) (number_of (inner k)) h h) (sym (ap (λ (z : Memo ℕ). z.pairs) same.0)) rest_both

@@ -55,7 +55,8 @@ has_node t (suc (suc k)) sh v b = node (node_at t (suc (suc k))) refl v
     node None e w = absurd (let x : false ≡ true = w in cc)
     node (Some s) e w = has_number (node_at t) (length t.nodes) (suc (suc k)) s e (within t (suc (suc k)) s e)
 
-place_in_twice : (f : Tree → Tree) (n : ℕ) (t : Table) (pairs : List (Place × ℕ)) → IsShared t → Remembers f n t pairs → (q : Place) (o : Option ℕ) → result_at pairs q ≡ o → is_some o ≡ true → q.op ≡ n → is_member same_place (twice n (numbers t)) q ≡ true
+place_in_twice : (f : Tree → Tree) (n : ℕ) (t : Table) (pairs : List (Place × ℕ)) → IsShared t → Remembers f n t pairs → (q : Place) (o : Option ℕ) → result_at pairs q ≡ o → is_some o ≡ true
+    → q.op ≡ n → is_member same_place (twice n (numbers t)) q ≡ true
 place_in_twice f n t pairs sh re q None e w i = absurd (let x : false ≡ true = w in cc)
 place_in_twice f n t pairs sh re q (Some h) e w i =
     let here : q ≡ record { op = n; left = q.left; right = q.right } = ap (λ (k : ℕ). record { op = k; left = q.left; right = q.right }) i in
@@ -64,12 +65,14 @@ place_in_twice f n t pairs sh re q (Some h) e w i =
     subst (λ p. is_member same_place (twice n (numbers t)) p ≡ true) both (in_twice n q.left (numbers t) (has_node t q.left sh x.1 x.2))
 
 -- such an operation's pairs are no more than there are pairs of handles, and nodes
-most_changed : (k : Merge) (level u v : ℕ) (s t : Table) (old new : List (Place × ℕ)) → old ≡ [] → IsShared t → (m : Memo ℕ) → m.pairs ≡ new → IsMemo m → IsSound t new → Remembers (at_level (merged k) level) (merge_number k) t new → LeavesRest s old new (merge_number k) (number_of (inner k)) u v →
+most_changed : (k : Merge) (level u v : ℕ) (s t : Table) (old new : List (Place × ℕ)) → old ≡ [] → IsShared t → (m : Memo ℕ) → m.pairs ≡ new → IsMemo m → IsSound t new → Remembers (at_level
+    (merged k) level) (merge_number k) t new → LeavesRest s old new (merge_number k) (number_of (inner k)) u v →
     length new ≤ (t.room + 2) * (t.room + 2) + t.room
 most_changed k level u v s t old new none sh m is memo sound re rest =
     let all = grid (number_of (inner k)) (handles t) (handles t) in
     let mine = twice (merge_number k) (numbers t) in
-    let n = length-le_from_is_member places_laws (keys_of m.pairs) (mine ++ all) memo.distinct (λ q i. list_any-append (same_place q) mine all ∙ three q (subst (λ x. is_some (result_at x q) ≡ true) is (is_some-lookup (same_place q) m.pairs ∙ i)) (told q.op (merge_number k)) (told q.op (number_of (inner k)))) in
+    let n = length-le_from_is_member places_laws (keys_of m.pairs) (mine ++ all) memo.distinct (λ q i. list_any-append (same_place q) mine all ∙ three q (subst (λ x. is_some (result_at x q)
+    ≡ true) is (is_some-lookup (same_place q) m.pairs ∙ i)) (told q.op (merge_number k)) (told q.op (number_of (inner k)))) in
     let l = length-append mine all in
     let a = twice-length (merge_number k) (numbers t) in
     let g = grid-length (number_of (inner k)) (handles t) (handles t) in
@@ -91,13 +94,15 @@ most_changed k level u v s t old new none sh m is memo sound re rest =
         (list_any (same_place q) (twice (merge_number k) (numbers t)) || list_any (same_place q) (grid (number_of (inner k)) (handles t) (handles t))) ≡ true
     three q i (inl e) y = left_or _ _ (place_in_twice (at_level (merged k) level) (merge_number k) t new sh re q (result_at new q) refl i e)
     three q i (inr n) (inl e) = right_or _ _ (place_in_grid (inner k) t new sound q (result_at new q) refl i e)
-    three q i (inr n) (inr o) = absurd (let z : is_some (result_at old q) ≡ true = ap is_some (sym (rest.other_op q n o)) ∙ i in let y : false ≡ true = subst (λ x. is_some (result_at x q) ≡ true) none z in cc)
+    three q i (inr n) (inr o) = absurd (let z : is_some (result_at old q) ≡ true = ap is_some (sym (rest.other_op q n o)) ∙ i in let y : false ≡ true = subst (λ x. is_some (result_at x q) ≡
+        true) none z in cc)
 
 small : (n : ℕ) → 2 * n ≤ n * n + 3
 small n = ⊎_elim (λ (l : n < 2). omega (arith, l)) (λ (l : 2 ≤ n). (let x = mul-le-mul_left n l in omega (arith, x))) (cases_lt n 2)
 
 -- what a try costs from an empty memo that is large enough
-pub change_bounded : (k : Merge) (level h : ℕ) (t w : Table) (m n : Memo ℕ) (s j : ℕ) (r : Result ℕ Full) → IsShared t → IsValid t h → m.pairs ≡ [] → (t.room + 2) * (t.room + 3) ≤ m.entries → IsMemo n → Changes k level h t w m n s j r → j ≤ s + 3 * ((t.room + 2) * (t.room + 2))
+pub change_bounded : (k : Merge) (level h : ℕ) (t w : Table) (m n : Memo ℕ) (s j : ℕ) (r : Result ℕ Full) → IsShared t → IsValid t h → m.pairs ≡ [] → (t.room + 2) * (t.room + 3) ≤ m.entries
+    → IsMemo n → Changes k level h t w m n s j r → j ≤ s + 3 * ((t.room + 2) * (t.room + 2))
 change_bounded k level h t w m n s j r sh vh none large memo a =
     let same : w.room ≡ t.room = a.made.grows.keeps.room in
     let most : length n.pairs ≤ (t.room + 2) * (t.room + 2) + t.room =

@@ -42,7 +42,8 @@ sound_kept t u pairs k s = record {
       (a.0, b.0, c.0, c.1 ∙ x.3 ∙ sym (ap (λ y. apply_tree (truth_of op) y (tree_of u r)) a.1 ∙ ap (λ y. apply_tree (truth_of op) (tree_of t l) y) b.1)));
 }
 
-pub sound_added : (t : Table) (old new : List (Place × ℕ)) (op : Op) (u v h : ℕ) → IsSound t old → IsValid t u → IsValid t v → IsValid t h → tree_of t h ≡ op_tree op t u v → Adds old (place op u v) h new → IsSound t new
+pub sound_added : (t : Table) (old new : List (Place × ℕ)) (op : Op) (u v h : ℕ) → IsSound t old → IsValid t u → IsValid t v → IsValid t h → tree_of t h ≡ op_tree op t u v → Adds old (place
+    op u v) h new → IsSound t new
 sound_added t old new op u v h s a b c e adds = record {
   each = λ o l r k p.
       elim (same_place (place op u v) (place o l r)) as (λ b. same_place (place op u v) (place o l r) ≡ b → cond b (Some h) (result_at old (place o l r)) ≡ Some k
@@ -86,7 +87,8 @@ pub others_chained : (t : Table) (a b c : List (Place × ℕ)) (op u v : ℕ) �
 others_chained t a b c op u v x y = record { other_op = λ q n. y.other_op q n ∙ x.other_op q n; deeper = λ q i j d. y.deeper q i j d ∙ x.deeper q i j d }
 
 -- a call on trees that are less deep, in a table that kept its trees
-pub others_below : (s t : Table) (a b : List (Place × ℕ)) (op u v k l : ℕ) → KeepsTrees t s → IsValid t k → IsValid t l → depths t k l < depths t u v → LeavesOthers s a b op k l → LeavesOthers t a b op u v
+pub others_below : (s t : Table) (a b : List (Place × ℕ)) (op u v k l : ℕ) → KeepsTrees t s → IsValid t k → IsValid t l → depths t k l < depths t u v → LeavesOthers s a b op k l →
+    LeavesOthers t a b op u v
 others_below s t a b op u v k l keeps vk vl less x = record {
   other_op = x.other_op;
   deeper = λ q i j d.
@@ -118,7 +120,8 @@ stored_cases true old new p h full a b = inl (a refl)
 stored_cases false old new p h full a b = inr (b refl, full.0 refl)
 
 -- what a call of `store` left, of another number
-pub sound_stored : (t : Table) (old new : Memo ℕ) (p : Place) (h : ℕ) (r : Bool) → 5 ≤ p.op → IsSound t old.pairs → (r ≡ true → Adds old.pairs p h new.pairs) → (r ≡ false → new ≡ old) → IsSound t new.pairs
+pub sound_stored : (t : Table) (old new : Memo ℕ) (p : Place) (h : ℕ) (r : Bool) → 5 ≤ p.op → IsSound t old.pairs → (r ≡ true → Adds old.pairs p h new.pairs) → (r ≡ false → new ≡ old) →
+    IsSound t new.pairs
 sound_stored t old new p h true above s a b = sound_other t old.pairs new.pairs p h above s (a refl)
 sound_stored t old new p h false above s a b = subst (λ (m : Memo ℕ). IsSound t m.pairs) (sym (b refl)) s
 

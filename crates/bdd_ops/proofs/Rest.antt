@@ -38,7 +38,8 @@ remembers_none f n t = record { each = λ u v k e. (let x : None ≡ Some k = e 
     none_some k e = cc
 
 -- where the number's pairs are as before, in a table that keeps its trees
-pub remembers_kept : (f : Tree → Tree) (n : ℕ) (t w : Table) (old new : List (Place × ℕ)) → KeepsTrees t w → ((q : Place) → q.op ≡ n → result_at new q ≡ result_at old q) → Remembers f n t old → Remembers f n w new
+pub remembers_kept : (f : Tree → Tree) (n : ℕ) (t w : Table) (old new : List (Place × ℕ)) → KeepsTrees t w → ((q : Place) → q.op ≡ n → result_at new q ≡ result_at old q) → Remembers f n t
+    old → Remembers f n w new
 remembers_kept f n t w old new k same_pairs s = record {
   each = λ u v h e.
       (let x = s.each u v h (sym (same_pairs (record { op = n; left = u; right = v }) refl) ∙ e) in
@@ -46,10 +47,12 @@ remembers_kept f n t w old new k same_pairs s = record {
       (x.0, a.0, subst IsBranch (sym a.1) x.2, b.0, b.1 ∙ x.4 ∙ sym (ap f a.1)));
 }
 
-pub remembers_added : (f : Tree → Tree) (n : ℕ) (t : Table) (old new : List (Place × ℕ)) (u h : ℕ) → Remembers f n t old → IsValid t u → IsBranch (tree_of t u) → IsValid t h → tree_of t h ≡ f (tree_of t u) → Adds old (at_one n u) h new → Remembers f n t new
+pub remembers_added : (f : Tree → Tree) (n : ℕ) (t : Table) (old new : List (Place × ℕ)) (u h : ℕ) → Remembers f n t old → IsValid t u → IsBranch (tree_of t u) → IsValid t h → tree_of t h ≡
+    f (tree_of t u) → Adds old (at_one n u) h new → Remembers f n t new
 remembers_added f n t old new u h s vu bu vh e adds = record {
   each = λ a b k p.
-      elim (same_place (at_one n u) (record { op = n; left = a; right = b })) as (λ x. same_place (at_one n u) (record { op = n; left = a; right = b }) ≡ x → cond x (Some h) (result_at old (record { op = n; left = a; right = b })) ≡ Some k
+      elim (same_place (at_one n u) (record { op = n; left = a; right = b })) as (λ x. same_place (at_one n u) (record { op = n; left = a; right = b }) ≡ x → cond x (Some h) (result_at old
+      (record { op = n; left = a; right = b })) ≡ Some k
       → (a ≡ b) × IsValid t a × IsBranch (tree_of t a) × IsValid t k × (tree_of t k ≡ f (tree_of t a))) [
         | true ↦ λ i p.
             let one = same (at_one n u) (record { op = n; left = a; right = b }) i in
@@ -71,7 +74,8 @@ rest_wider t old new a n u v o = record { other_op = λ q i j. o.other_op q j j;
 pub rest_chained : (t : Table) (x y z : List (Place × ℕ)) (a b u v : ℕ) → LeavesRest t x y a b u v → LeavesRest t y z a b u v → LeavesRest t x z a b u v
 rest_chained t x y z a b u v p q = record { other_op = λ k m n. q.other_op k m n ∙ p.other_op k m n; deeper = λ k i j d. q.deeper k i j d ∙ p.deeper k i j d }
 
-pub rest_below : (s t : Table) (x y : List (Place × ℕ)) (a b u v k l : ℕ) → KeepsTrees t s → IsValid t k → IsValid t l → depths t k l < depths t u v → LeavesRest s x y a b k l → LeavesRest t x y a b u v
+pub rest_below : (s t : Table) (x y : List (Place × ℕ)) (a b u v k l : ℕ) → KeepsTrees t s → IsValid t k → IsValid t l → depths t k l < depths t u v → LeavesRest s x y a b k l → LeavesRest t
+    x y a b u v
 rest_below s t x y a b u v k l keeps vk vl less r = record {
   other_op = r.other_op;
   deeper = λ q i j d.
@@ -111,7 +115,8 @@ level_both m n o s q k j r e a b = record {
 pub level_high : (m o : Memo ℕ) (s j r d whole : ℕ) → Costs m o (s + 3) j r → r ≤ d → d < whole → Costs m o (s + 1) j whole
 level_high m o s j r d whole c le less = record { entries = c.entries; grows = c.grows; steps = λ l. (let x = c.steps l in omega (arith, x, le, less)) }
 
-pub level_stored : (m o p : Memo ℕ) (s j h : ℕ) (q : Place) → Costs m o (s + 3) j 0 → p.entries ≡ o.entries → (Adds o.pairs q h p.pairs ⊎ ((p ≡ o) × (length o.pairs ≡ o.entries))) → Costs m p (s + 1) j 0
+pub level_stored : (m o p : Memo ℕ) (s j h : ℕ) (q : Place) → Costs m o (s + 3) j 0 → p.entries ≡ o.entries → (Adds o.pairs q h p.pairs ⊎ ((p ≡ o) × (length o.pairs ≡ o.entries))) → Costs m
+    p (s + 1) j 0
 level_stored m o p s j h q c e (inl a) = record {
   entries = e ∙ c.entries;
   grows = (let x = c.grows in let n = a.count in omega (arith, x, n));

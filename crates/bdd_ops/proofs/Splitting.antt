@@ -58,7 +58,8 @@ same_join f l a b c d p q r s e g h i =
     ∙ ap (λ x. join l (apply_tree f p q) (apply_tree f x d)) (sym h) ∙ ap (λ x. join l (apply_tree f p q) (apply_tree f r x)) (sym i)
 
 -- where neither tree stands above l and one stands at it, the operation goes by the parts at l
-pub apply-step : (f : Bool → Bool → Bool) (u v : Tree) (l : ℕ) → l < 65536 → l ≤ top u → l ≤ top v → (top u ≡ l) ⊎ (top v ≡ l) → apply_tree f u v ≡ join l (apply_tree f (low_at l u) (low_at l v)) (apply_tree f (high_at l u) (high_at l v))
+pub apply-step : (f : Bool → Bool → Bool) (u v : Tree) (l : ℕ) → l < 65536 → l ≤ top u → l ≤ top v → (top u ≡ l) ⊎ (top v ≡ l) → apply_tree f u v ≡ join l (apply_tree f (low_at l u) (low_at
+    l v)) (apply_tree f (high_at l u) (high_at l v))
 apply-step f Zero Zero l s a b c = absurd (⊎_elim (λ e. omega (arith, e)) (λ e. omega (arith, e)) c)
 apply-step f Zero One l s a b c = absurd (⊎_elim (λ e. omega (arith, e)) (λ e. omega (arith, e)) c)
 apply-step f One Zero l s a b c = absurd (⊎_elim (λ e. omega (arith, e)) (λ e. omega (arith, e)) c)
@@ -83,18 +84,23 @@ apply-step f (Branch k t u) (Branch m x y) l s a b c =
     ⊎_elim
     (λ (e : k ≡ m).
     let n : m ≡ l = ⊎_elim (λ c. sym e ∙ c) (λ c. c) c in
-    let both : apply_tree f (Branch m t u) (Branch m x y) ≡ join m (apply_tree f (low_at m (Branch m t u)) (low_at m (Branch m x y))) (apply_tree f (high_at m (Branch m t u)) (high_at m (Branch m x y))) =
+    let both : apply_tree f (Branch m t u) (Branch m x y) ≡ join m (apply_tree f (low_at m (Branch m t u)) (low_at m (Branch m x y))) (apply_tree f (high_at m (Branch m t u)) (high_at m
+    (Branch m x y))) =
     merge-same m (apply_tree f t) (apply_tree f u) x y ∙ same_join f m t x u y _ _ _ _ (low_here m t u) (low_here m x y) (high_here m t u) (high_here m x y) in
-    subst (λ l. apply_tree f (Branch k t u) (Branch m x y) ≡ join l (apply_tree f (low_at l (Branch k t u)) (low_at l (Branch m x y))) (apply_tree f (high_at l (Branch k t u)) (high_at l (Branch m x y)))) n
-    (subst (λ k. apply_tree f (Branch k t u) (Branch m x y) ≡ join m (apply_tree f (low_at m (Branch k t u)) (low_at m (Branch m x y))) (apply_tree f (high_at m (Branch k t u)) (high_at m (Branch m x y)))) (sym e) both))
+    subst (λ l. apply_tree f (Branch k t u) (Branch m x y) ≡ join l (apply_tree f (low_at l (Branch k t u)) (low_at l (Branch m x y))) (apply_tree f (high_at l (Branch k t u)) (high_at l
+    (Branch m x y)))) n
+    (subst (λ k. apply_tree f (Branch k t u) (Branch m x y) ≡ join m (apply_tree f (low_at m (Branch k t u)) (low_at m (Branch m x y))) (apply_tree f (high_at m (Branch k t u)) (high_at m
+    (Branch m x y)))) (sym e) both))
     (⊎_elim
     (λ (h : k < m).
     let n : k ≡ l = ⊎_elim (λ c. c) (λ c. absurd (omega (arith, h, c, a))) c in
-    subst (λ l. apply_tree f (Branch k t u) (Branch m x y) ≡ join l (apply_tree f (low_at l (Branch k t u)) (low_at l (Branch m x y))) (apply_tree f (high_at l (Branch k t u)) (high_at l (Branch m x y)))) n
+    subst (λ l. apply_tree f (Branch k t u) (Branch m x y) ≡ join l (apply_tree f (low_at l (Branch k t u)) (low_at l (Branch m x y))) (apply_tree f (high_at l (Branch k t u)) (high_at l
+    (Branch m x y)))) n
     (merge-less k (apply_tree f t) (apply_tree f u) m x y h ∙ same_join f k t (Branch m x y) u (Branch m x y) _ _ _ _ (low_here k t u) (low_below k m x y h) (high_here k t u) (high_below k m x y h)))
     (λ (h : m < k).
     let n : m ≡ l = ⊎_elim (λ c. absurd (omega (arith, h, c, b))) (λ c. c) c in
-    subst (λ l. apply_tree f (Branch k t u) (Branch m x y) ≡ join l (apply_tree f (low_at l (Branch k t u)) (low_at l (Branch m x y))) (apply_tree f (high_at l (Branch k t u)) (high_at l (Branch m x y)))) n
+    subst (λ l. apply_tree f (Branch k t u) (Branch m x y) ≡ join l (apply_tree f (low_at l (Branch k t u)) (low_at l (Branch m x y))) (apply_tree f (high_at l (Branch k t u)) (high_at l
+    (Branch m x y)))) n
     (merge-more k (apply_tree f t) (apply_tree f u) m x y h ∙ same_join f m (Branch k t u) x (Branch k t u) y _ _ _ _ (low_below m k t u h) (low_here m x y) (high_below m k t u h) (high_here m x y))))
     (cases_order k m)
 
@@ -163,6 +169,8 @@ parts f t u v s sh vu vv p =
       whole = apply-step f tu tv l p.small le_u le_v least ∙ same_join f l _ _ _ _ _ _ _ _ ul vl uh vh;
       below_low = below f l (low_at l tu) (low_at l tv) (tree_of t s.left_low) (tree_of t s.right_low) p.small ul vl (low_at-ordered l tu ou) (low_at-ordered l tv ov);
       below_high = below f l (high_at l tu) (high_at l tv) (tree_of t s.left_high) (tree_of t s.right_high) p.small uh vh (high_at-ordered l tu ou) (high_at-ordered l tv ov);
-      depth_low = ⊎_elim (λ m. (let d = depth-at_top l tu p.small m in omega (arith, ap depth ul, ap depth vl, d.0, dv.0))) (λ m. (let d = depth-at_top l tv p.small m in omega (arith, ap depth ul, ap depth vl, d.0, du.0))) least;
-      depth_high = ⊎_elim (λ m. (let d = depth-at_top l tu p.small m in omega (arith, ap depth uh, ap depth vh, d.1, dv.1))) (λ m. (let d = depth-at_top l tv p.small m in omega (arith, ap depth uh, ap depth vh, d.1, du.1))) least;
+      depth_low = ⊎_elim (λ m. (let d = depth-at_top l tu p.small m in omega (arith, ap depth ul, ap depth vl, d.0, dv.0)))
+          (λ m. (let d = depth-at_top l tv p.small m in omega (arith, ap depth ul, ap depth vl, d.0, du.0))) least;
+      depth_high = ⊎_elim (λ m. (let d = depth-at_top l tu p.small m in omega (arith, ap depth uh, ap depth vh, d.1, dv.1)))
+          (λ m. (let d = depth-at_top l tv p.small m in omega (arith, ap depth uh, ap depth vh, d.1, du.1))) least;
     }

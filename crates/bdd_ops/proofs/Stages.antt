@@ -24,7 +24,8 @@ pub made_ok : (t w : Table) (tree : Tree) (h : ℕ) → IsValid w h → tree_of 
 made_ok t w tree h v e g = record { valid = v; is = e; grows = g; full = (λ x. absurd (never x), λ f. (let n = fits_in t w tree h g v e in absurd (omega (arith, n, f)))) }
 
 -- what `make` says, of the tree that joins two others
-pub makes_node : (t w : Table) (tree : Tree) (r : Result ℕ Full) → IfOk r (λ h. IsValid w h) → IfOk r (λ h. tree_of w h ≡ tree) → KeepsTrees t w → OnOk r (HoldsAlso t w tree) → OnErr r (w ≡ t) → IsShared w → (IsErr r ↔ (t.room < need t tree)) → Makes tree t w r
+pub makes_node : (t w : Table) (tree : Tree) (r : Result ℕ Full) → IfOk r (λ h. IsValid w h) → IfOk r (λ h. tree_of w h ≡ tree) → KeepsTrees t w → OnOk r (HoldsAlso t w tree) → OnErr r (w ≡
+    t) → IsShared w → (IsErr r ↔ (t.room < need t tree)) → Makes tree t w r
 makes_node t w tree (Ok h) v i k also gone s full = record { valid = v; is = i; grows = made_grows t w tree k also s; full = full }
 makes_node t w tree (Err x) v i k also gone s full = record { valid = tt; is = tt; grows = subst (λ y. Grows t y tree) (sym gone) (grows_none t tree (subst IsShared gone s)); full = full }
 
@@ -80,7 +81,8 @@ module _ (op : Op) (u v : ℕ) (t : Table) (m : Memo ℕ) (s : ℕ) (sh : IsShar
       keeps = a.made.grows.keeps
 
       same_high : op_tree op w k.left_high k.right_high ≡ op_tree op t k.left_high k.right_high
-      same_high = ap (λ x. apply_tree (truth_of op) x (tree_of w k.right_high)) (keeps.trees k.left_high sp.left_high.0).1 ∙ ap (apply_tree (truth_of op) (tree_of t k.left_high)) (keeps.trees k.right_high sp.right_high.0).1
+      same_high = ap (λ x. apply_tree (truth_of op) x (tree_of w k.right_high)) (keeps.trees k.left_high sp.left_high.0).1 ∙ ap (apply_tree (truth_of op) (tree_of t k.left_high))
+          (keeps.trees k.right_high sp.right_high.0).1
 
       high_now : IsPart (op_tree op w k.left_high k.right_high) Whole
       high_now x i = high_part x (subst (λ y. In (branches y) x) same_high i)
@@ -110,13 +112,19 @@ module _ (op : Op) (u v : ℕ) (t : Table) (m : Memo ℕ) (s : ℕ) (sh : IsShar
           made = record { valid = tt; is = tt; grows = grows_both; full = (λ z. full_back t w (op_tree op w k.left_high k.right_high) Whole grows_low high_now (b.made.full.0 y), λ z. refl) };
           sound = b.sound;
           others = others_both;
-          costs = costs_part m o s s2 (unfinished r2 (depths w k.left_high k.right_high)) (depths w k.left_high k.right_high) (depths t u v) (costs_chained m n o (s + 2) s1 s2 _ costs_low b.costs) (unfinished-le r2 _) less_high;
+          costs = costs_part m o s s2 (unfinished r2 (depths w k.left_high k.right_high)) (depths w k.left_high k.right_high) (depths t u v) (costs_chained m n o (s + 2) s1 s2 _ costs_low
+              b.costs) (unfinished-le r2 _) less_high;
         }
 
         -- the key is still absent
         pub absent : result_at m.pairs (place op u v) ≡ None → result_at o.pairs (place op u v) ≡ None
         absent e =
-            let d : depths w k.left_high k.right_high < depths w u v = (let h = less_high in let i = ap depth (keeps.trees u vu).1 in let j = ap depth (keeps.trees v vv).1 in omega (arith, h, i, j)) in
+            let d : depths w k.left_high k.right_high < depths w u v = (let h = less_high in let i = ap depth (keeps.trees u vu).1 in let j = ap depth (keeps.trees v vv).1 in omega (
+              arith,
+              h,
+              i,
+              j,
+            )) in
             b.others.deeper (place op u v) (keeps.trees u vu).0 (keeps.trees v vv).0 d ∙ a.others.deeper (place op u v) vu vv ps.depth_low ∙ e
 
         module _ (high : ℕ) (ok2 : r2 ≡ Ok high) where
@@ -159,7 +167,8 @@ module _ (op : Op) (u v : ℕ) (t : Table) (m : Memo ℕ) (s : ℕ) (sh : IsShar
           err_make y z same i f = subst (λ w. Applies op u v t w m o s s2 z) (sym same) (unmade z i f)
 
           -- the node was made, and its pair stored where there was room
-          pub done : (y : Table) (h : ℕ) (p : Memo ℕ) → IsValid y h → tree_of y h ≡ join k.level (tree_of x low) (tree_of x high) → KeepsTrees x y → HoldsAlso x y (join k.level (tree_of x low) (tree_of x high)) → IsShared y
+          pub done : (y : Table) (h : ℕ) (p : Memo ℕ) → IsValid y h → tree_of y h ≡ join k.level (tree_of x low) (tree_of x high) → KeepsTrees x y → HoldsAlso x y (join k.level (tree_of x
+              low) (tree_of x high)) → IsShared y
               → p.entries ≡ o.entries → (Adds o.pairs (place op u v) h p.pairs ⊎ ((p ≡ o) × (length o.pairs ≡ o.entries))) → Applies op u v t y m p s s2 (Ok h)
           done y h p vh e keep holds shy entries stored =
               let grown = chained t x y Whole grows_both (made_grows x y Whole keep (subst (HoldsAlso x y) joins holds) shy) in
@@ -172,7 +181,8 @@ module _ (op : Op) (u v : ℕ) (t : Table) (m : Memo ℕ) (s : ℕ) (sh : IsShar
                 costs = costs_stored m o p s s2 h (place op u v) costs_both entries stored;
               }
             where
-              now : (y : Table) (h : ℕ) (p : Memo ℕ) → IsValid y h → tree_of y h ≡ Whole → Grows t y Whole → IsSound y o.pairs → (Adds o.pairs (place op u v) h p.pairs ⊎ ((p ≡ o) × (length o.pairs ≡ o.entries))) → IsSound y p.pairs
+              now : (y : Table) (h : ℕ) (p : Memo ℕ) → IsValid y h → tree_of y h ≡ Whole → Grows t y Whole → IsSound y o.pairs → (Adds o.pairs (place op u v) h p.pairs ⊎ ((p ≡ o) × (length
+                  o.pairs ≡ o.entries))) → IsSound y p.pairs
               now y h p vh is g before (inl adds) =
                   let a = g.keeps.trees u vu in let b = g.keeps.trees v vv in
                   sound_added y o.pairs p.pairs op u v h before a.0 b.0 vh (is ∙ sym (ap (λ z. apply_tree (truth_of op) z (tree_of y v)) a.1 ∙ ap (apply_tree (truth_of op) (tree_of t u)) b.1)) adds

@@ -49,7 +49,8 @@ fits_all t made hs s vm vs =
     omega (arith, n, distinct_count-le tree_eq (held t), live-held t, s.bound)
 
 -- a fact of each handle of two lists is one of each handle of both
-both_lists : (P : ℕ → Type 0) (xs ys : List ℕ) → ((j : ℕ) → j < length xs → P (slice_index_or xs j 0)) → ((j : ℕ) → j < length ys → P (slice_index_or ys j 0)) → (j : ℕ) → j < length (xs ++ ys) → P (slice_index_or (xs ++ ys) j 0)
+both_lists : (P : ℕ → Type 0) (xs ys : List ℕ) → ((j : ℕ) → j < length xs → P (slice_index_or xs j 0)) → ((j : ℕ) → j < length ys → P (slice_index_or ys j 0)) → (j : ℕ) → j < length (xs ++
+    ys) → P (slice_index_or (xs ++ ys) j 0)
 both_lists P [] ys p q j l = q j l
 both_lists P (x ∷ xs) ys p q zero l = p 0 (omega arith)
 both_lists P (x ∷ xs) ys p q (suc j) l = both_lists P xs ys (λ k m. p (suc k) (omega arith)) q j (omega arith)
@@ -117,14 +118,16 @@ module _ (tree : Tree) (operands roots : List ℕ) (old w new : Table) (room : w
       first : (xs ys : List ℕ) (t : Tree) → In (branches_of (map (tree_of old) xs)) t → In (branches_of (map (tree_of old) (xs ++ ys))) t
       first [] ys t m = absurd (let x : false ≡ true = m in cc)
       first (x ∷ xs) ys t m =
-          ⊎_elim (λ y. in_left (branches (tree_of old x)) _ t y) (λ y. in_right (branches (tree_of old x)) _ t (first xs ys t y)) (in_either (branches (tree_of old x)) (branches_of (map (tree_of old) xs)) t m)
+          ⊎_elim (λ y. in_left (branches (tree_of old x)) _ t y) (λ y. in_right (branches (tree_of old x)) _ t (first xs ys t y)) (in_either (branches (tree_of old x)) (branches_of (map
+          (tree_of old) xs)) t m)
 
       second : (xs ys : List ℕ) (t : Tree) → In (branches_of (map (tree_of old) ys)) t → In (branches_of (map (tree_of old) (xs ++ ys))) t
       second [] ys t m = m
       second (x ∷ xs) ys t m = in_right (branches (tree_of old x)) _ t (second xs ys t m)
 
 -- a second try over what the first left
-pub tried_before : (tree : Tree) (operands roots : List ℕ) (old w new : Table) (r : Result ℕ NodesFull) → w.room ≡ old.room → AllStay old w operands → AllStay old w roots → Operates tree operands roots w new r → Operates tree operands roots old new r
+pub tried_before : (tree : Tree) (operands roots : List ℕ) (old w new : Table) (r : Result ℕ NodesFull) → w.room ≡ old.room → AllStay old w operands → AllStay old w roots → Operates tree
+    operands roots w new r → Operates tree operands roots old new r
 tried_before tree operands roots old w new r room so sr o =
     let same = same_need tree (operands ++ roots) old w (both_lists (λ h. IsValid w h × (tree_of w h ≡ tree_of old h)) operands roots so sr) in
     record {

@@ -35,7 +35,8 @@ at_right : (h : Bool → Bool → Bool) (x w c d p q : Bool) → p ≡ h w c →
 at_right h true w c d p q e f = f
 at_right h false w c d p q e f = e
 
-merge-value : (h : Bool → Bool → Bool) (l : ℕ) (f g : Tree → Tree) (va vb : Bool) (bits : List Bool) → ((w : Tree) → value (f w) bits ≡ h va (value w bits)) → ((w : Tree) → value (g w) bits ≡ h vb (value w bits))
+merge-value : (h : Bool → Bool → Bool) (l : ℕ) (f g : Tree → Tree) (va vb : Bool) (bits : List Bool) → ((w : Tree) → value (f w) bits ≡ h va (value w bits)) → ((w : Tree) → value (g w) bits
+    ≡ h vb (value w bits))
     → (v : Tree) → value (merge l f g v) bits ≡ h (cond (bit bits l) vb va) (value v bits)
 merge-value h l f g va vb bits x y Zero = join_value l (f Zero) (g Zero) bits ∙ at_parts h (bit bits l) va vb false _ _ (x Zero) (y Zero)
 merge-value h l f g va vb bits x y One = join_value l (f One) (g One) bits ∙ at_parts h (bit bits l) va vb true _ _ (x One) (y One)
@@ -122,6 +123,7 @@ apply-reduced f (Branch l a b) v p q = merge-reduced l (apply_tree f a) (apply_t
 -- ---- the tree of the values
 
 -- a tree that has the operation's values is the operation's tree
-pub apply-from_values : (f : Bool → Bool → Bool) (u v w : Tree) → IsOrdered u → IsReduced u → IsOrdered v → IsReduced v → IsOrdered w → IsReduced w → ((bits : List Bool) → value w bits ≡ f (value u bits) (value v bits)) → w ≡ apply_tree f u v
+pub apply-from_values : (f : Bool → Bool → Bool) (u v w : Tree) → IsOrdered u → IsReduced u → IsOrdered v → IsReduced v → IsOrdered w → IsReduced w → ((bits : List Bool) → value w bits ≡ f
+    (value u bits) (value v bits)) → w ≡ apply_tree f u v
 apply-from_values f u v w ou ru ov rv ow rw_ e =
     one_tree w (apply_tree f u v) ow rw_ (apply-ordered f u v 0 ou ov) (apply-reduced f u v ru rv) (λ bits. e bits ∙ sym (apply-value f u v bits))

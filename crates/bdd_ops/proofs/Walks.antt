@@ -41,13 +41,16 @@ set_block-value (suc n) first code t o bits =
     (set_block-value n (first + 1) (code - 2 ^ n) (restrict first true t) (restrict_ordered first true t 0 o) bits ∙ restrict_value first true t 0 o (with_code bits (first + 1) n (code - 2 ^ n)))
     (set_block-value n (first + 1) code (restrict first false t) (restrict_ordered first false t 0 o) bits ∙ restrict_value first false t 0 o (with_code bits (first + 1) n code))
   where
-    either : (c : Bool) → value (set_block (first + 1) n (code - 2 ^ n) (restrict first true t)) bits ≡ value t (with_bit (with_code bits (first + 1) n (code - 2 ^ n)) first true) → value (set_block (first + 1) n code (restrict first false t)) bits ≡ value t (with_bit (with_code bits (first + 1) n code) first false) →
-        value (cond c (set_block (first + 1) n (code - 2 ^ n) (restrict first true t)) (set_block (first + 1) n code (restrict first false t))) bits ≡ value t (cond c (with_bit (with_code bits (first + 1) n (code - 2 ^ n)) first true) (with_bit (with_code bits (first + 1) n code) first false))
+    either : (c : Bool) → value (set_block (first + 1) n (code - 2 ^ n) (restrict first true t)) bits ≡ value t (with_bit (with_code bits (first + 1) n (code - 2 ^ n)) first true) → value
+        (set_block (first + 1) n code (restrict first false t)) bits ≡ value t (with_bit (with_code bits (first + 1) n code) first false) →
+        value (cond c (set_block (first + 1) n (code - 2 ^ n) (restrict first true t)) (set_block (first + 1) n code (restrict first false t))) bits ≡ value t (cond c (with_bit (with_code
+        bits (first + 1) n (code - 2 ^ n)) first true) (with_bit (with_code bits (first + 1) n code) first false))
     either true x y = x
     either false x y = y
 
 -- a node on another level leaves the tree
-pub down_other : (t : Table) (h l m low high : ℕ) (v : Bool) → (tree_of t h ≡ Branch m (tree_of t low) (tree_of t high)) × IsValid t low × IsValid t high → (m ≡ l → ⊥) → IsOrderedFrom l (tree_of t h) → IsReduced (tree_of t h) → tree_of t h ≡ restrict l v (tree_of t h)
+pub down_other : (t : Table) (h l m low high : ℕ) (v : Bool) → (tree_of t h ≡ Branch m (tree_of t low) (tree_of t high)) × IsValid t low × IsValid t high → (m ≡ l → ⊥) → IsOrderedFrom l
+    (tree_of t h) → IsReduced (tree_of t h) → tree_of t h ≡ restrict l v (tree_of t h)
 down_other t h l m low high v e n o r =
     let p = subst (IsOrderedFrom l) e.0 o in
     let q : IsOrderedFrom (l + 1) (Branch m (tree_of t low) (tree_of t high)) = ((let x = p.0 in omega (arith, x, n)), p.1, p.2) in
@@ -59,5 +62,6 @@ upper_half b code half e f l = let x : code - half < half = some_half code half 
     some_half : (code half : ℕ) → code < half + half → code - half < half
     some_half code half l = omega (arith, l)
 
-pub walk_values : (t : Table) (h r n first code : ℕ) → tree_of t r ≡ set_block first n code (tree_of t h) → IsOrderedFrom first (tree_of t h) → (bits : List Bool) → value (tree_of t r) bits ≡ value (tree_of t h) (with_code bits first n code)
+pub walk_values : (t : Table) (h r n first code : ℕ) → tree_of t r ≡ set_block first n code (tree_of t h) → IsOrderedFrom first (tree_of t h) → (bits : List Bool) → value (tree_of t r) bits
+    ≡ value (tree_of t h) (with_code bits first n code)
 walk_values t h r n first code e o bits = ap (λ x. value x bits) e ∙ set_block-value n first code (tree_of t h) (weaken (tree_of t h) first 0 (omega arith) o) bits

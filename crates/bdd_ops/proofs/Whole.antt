@@ -18,12 +18,14 @@ use Rattle.bdd_ops.proofs.Bounds.{try_bounded}
 use Rattle.bdd_ops.proofs.Tries.{stay_valid, tried_before, first_ok, stay_collected, again_ok, again_full}
 
 -- a try in a store that has room for all pairs of handles
-pub inside_bounded : (op : Op) (u v : ℕ) (x : Shelf) (t w : Table) (m n : Memo ℕ) (s k : ℕ) (r : Result ℕ Full) → record { table = t; memo = m } ≡ x → IsShared t → IsValid t u → IsValid t v → IsMemo n → Applies op u v t w m n s k r → HasRoom x → k ≤ s + 3 * handle_pairs x.table
+pub inside_bounded : (op : Op) (u v : ℕ) (x : Shelf) (t w : Table) (m n : Memo ℕ) (s k : ℕ) (r : Result ℕ Full) → record { table = t; memo = m } ≡ x → IsShared t → IsValid t u → IsValid t v
+    → IsMemo n → Applies op u v t w m n s k r → HasRoom x → k ≤ s + 3 * handle_pairs x.table
 inside_bounded op u v x t w m n s k r e sh vu vv memo a =
     subst (λ (y : Shelf). HasRoom y → k ≤ s + 3 * handle_pairs y.table) e (λ room. try_bounded op u v t w m n s k r sh vu vv memo a (omega (arith, room)))
 
 -- the values of an operation's tree
-pub op_values : (op : Op) (u v : ℕ) (t w : Table) (h : ℕ) → tree_of w h ≡ op_tree op t u v → (bits : List Bool) → value (tree_of w h) bits ≡ truth_of op (value (tree_of t u) bits) (value (tree_of t v) bits)
+pub op_values : (op : Op) (u v : ℕ) (t w : Table) (h : ℕ) → tree_of w h ≡ op_tree op t u v → (bits : List Bool) → value (tree_of w h) bits ≡ truth_of op (value (tree_of t u) bits) (value
+    (tree_of t v) bits)
 op_values op u v t w h e bits = ap (λ x. value x bits) e ∙ apply-value (truth_of op) (tree_of t u) (tree_of t v) bits
 
 same_op_tree : (op : Op) (u v : ℕ) (t w : Table) → AllStay t w (u ∷ (v ∷ [])) → op_tree op w u v ≡ op_tree op t u v
@@ -50,7 +52,8 @@ module _ (op : Op) (u v : ℕ) (roots : List ℕ) (t p : Table) (pr : p.room ≡
 
     -- the second try made it
     pub again_made : (made : ℕ) → Makes (op_tree op w u v) w new (Ok made) → Operates (op_tree op t u v) (u ∷ (v ∷ [])) roots t new (Ok made)
-    again_made made m = began new (Ok made) (again_ok (op_tree op p u v) both roots p mid w new k (stay_valid t p both so) (stay_valid t p roots sr) c made (subst (λ x. Makes x w new (Ok made)) same m))
+    again_made made m = began new (Ok made) (again_ok (op_tree op p u v) both roots p mid w new k (stay_valid t p both so) (stay_valid t p roots sr) c made (subst (λ x. Makes x w new (Ok
+        made)) same m))
 
     -- nor had the second try room
     pub again_none : (x : NodesFull) (z : Full) → Makes (op_tree op w u v) w new (Err z) → Operates (op_tree op t u v) (u ∷ (v ∷ [])) roots t new (Err x)

@@ -21,7 +21,8 @@ use Rattle.quantify.proofs.Quantifying.{quantified-is, quantified-value}
 
 -- ---- one bit
 
-pub bit_made : (all : Bool) (level h : ℕ) (operands roots : List ℕ) (t new : Table) (k : Merge) (r : Result ℕ NodesFull) → k ≡ merge_of all → Operates (at_level (merged k) level (tree_of t h)) operands roots t new r → Operates (quantified all level (tree_of t h)) operands roots t new r
+pub bit_made : (all : Bool) (level h : ℕ) (operands roots : List ℕ) (t new : Table) (k : Merge) (r : Result ℕ NodesFull) → k ≡ merge_of all → Operates (at_level (merged k) level (tree_of t
+    h)) operands roots t new r → Operates (quantified all level (tree_of t h)) operands roots t new r
 bit_made all level h operands roots t new k r e o = subst (λ x. Operates x operands roots t new r) (ap (λ y. at_level (merged y) level (tree_of t h)) e ∙ quantified-is all level (tree_of t h)) o
 
 pub bit_values : (all : Bool) (level h : ℕ) (t new : Table) (r : Result ℕ NodesFull) → IsShared t → IsValid t h → IfOk r (λ n. tree_of new n ≡ quantified all level (tree_of t h)) →
@@ -42,7 +43,8 @@ two_valid t u v a b (suc (suc j)) l = absurd (omega (arith, l))
 
 module _ (all : Bool) (first bits h : ℕ) (roots : List ℕ) where
   -- no row is left
-  pub all_done : (done current : ℕ) (t : Table) → done ≡ bits → IsShared t → IsValid t h → AllValid t roots → IsValid t current → tree_of t current ≡ after_rows all first bits done (tree_of t h) → Quantifies all first bits done h roots t t (Ok current)
+  pub all_done : (done current : ℕ) (t : Table) → done ≡ bits → IsShared t → IsValid t h → AllValid t roots → IsValid t current → tree_of t current ≡ after_rows all first bits done (tree_of
+      t h) → Quantifies all first bits done h roots t t (Ok current)
   all_done done current t e sh vh vr vc is = record {
     room = refl;
     shared = sh;
@@ -56,12 +58,14 @@ module _ (all : Bool) (first bits h : ℕ) (roots : List ℕ) where
     refused = tt;
   }
 
-  module _ (done level current : ℕ) (t w : Table) (here : level + done + 1 ≡ first + bits) (is : tree_of t current ≡ after_rows all first bits done (tree_of t h)) (r : Result ℕ NodesFull) (o : Operates (quantified all level (tree_of t current)) (current ∷ (h ∷ [])) roots t w r) where
+  module _ (done level current : ℕ) (t w : Table) (here : level + done + 1 ≡ first + bits) (is : tree_of t current ≡ after_rows all first bits done (tree_of t h)) (r : Result ℕ NodesFull) (o
+      : Operates (quantified all level (tree_of t current)) (current ∷ (h ∷ [])) roots t w r) where
     next : quantified all level (tree_of t current) ≡ after_rows all first bits (suc done) (tree_of t h)
     next = ap (quantified all level) is ∙ ap (λ n. quantified all n (after_rows all first bits done (tree_of t h))) (omega (arith, here))
 
     same : need_with (quantified all level (tree_of t current)) ((current ∷ (h ∷ [])) ++ roots) t ≡ row_need all first bits done h roots t
-    same = ap (λ x. size (x ∷ (tree_of t current ∷ (tree_of t h ∷ map (tree_of t) roots)))) next ∙ ap (λ x. size (after_rows all first bits (suc done) (tree_of t h) ∷ (x ∷ (tree_of t h ∷ map (tree_of t) roots)))) is
+    same = ap (λ x. size (x ∷ (tree_of t current ∷ (tree_of t h ∷ map (tree_of t) roots)))) next ∙ ap
+        (λ x. size (after_rows all first bits (suc done) (tree_of t h) ∷ (x ∷ (tree_of t h ∷ map (tree_of t) roots)))) is
 
     operand : IsValid w h × (tree_of w h ≡ tree_of t h)
     operand = o.operands_stay 1 (omega arith)
@@ -89,7 +93,8 @@ module _ (all : Bool) (first bits h : ℕ) (roots : List ℕ) where
     module _ (made : ℕ) (ok : r ≡ Ok made) (new : Table) where
       here_fits : row_need all first bits done h roots t ≤ t.room
       here_fits =
-          ⊎_elim (λ (l : t.room < row_need all first bits done h roots t). absurd (never (subst IsErr ok (o.full.1 (omega (arith, l, same)))))) (λ (l : row_need all first bits done h roots t ≤ t.room). l) (cases_lt t.room (row_need all first bits done h roots t))
+          ⊎_elim (λ (l : t.room < row_need all first bits done h roots t). absurd (never (subst IsErr ok (o.full.1 (omega (arith, l, same))))))
+          (λ (l : row_need all first bits done h roots t ≤ t.room). l) (cases_lt t.room (row_need all first bits done h roots t))
         where
           never : false ≡ true → ⊥
           never e = cc
@@ -97,7 +102,8 @@ module _ (all : Bool) (first bits h : ℕ) (roots : List ℕ) where
       same_row : (p : ℕ) → row_need all first bits p h roots w ≡ row_need all first bits p h roots t
       same_row p =
           ap (λ x. size (after_rows all first bits (suc p) x ∷ (after_rows all first bits p x ∷ (x ∷ map (tree_of w) roots)))) operand.1
-          ∙ ap (λ xs. size (after_rows all first bits (suc p) (tree_of t h) ∷ (after_rows all first bits p (tree_of t h) ∷ (tree_of t h ∷ xs)))) (same_map (tree_of w) (tree_of t) roots (λ j l. (o.roots_stay j l).1))
+          ∙ ap (λ xs. size (after_rows all first bits (suc p) (tree_of t h) ∷ (after_rows all first bits p (tree_of t h) ∷ (tree_of t h ∷ xs)))) (same_map (tree_of w) (tree_of t) roots (λ j
+          l. (o.roots_stay j l).1))
 
       -- the operand of the later rows
       pub later : IsValid w h × IsValid w made × AllValid w roots × (tree_of w made ≡ after_rows all first bits (done + 1) (tree_of w h))
@@ -105,7 +111,8 @@ module _ (all : Bool) (first bits h : ℕ) (roots : List ℕ) where
         operand.0,
         subst (λ x. IfOk x (λ k. IsValid w k)) ok o.valid,
         λ j l. (o.roots_stay j l).0,
-        subst (λ x. IfOk x (λ k. tree_of w k ≡ quantified all level (tree_of t current))) ok o.is ∙ next ∙ ap (λ n. after_rows all first bits n (tree_of t h)) (sym (add-one done)) ∙ ap (after_rows all first bits (done + 1)) (sym operand.1),
+        subst (λ x. IfOk x (λ k. tree_of w k ≡ quantified all level (tree_of t current))) ok o.is ∙ next ∙ ap (λ n. after_rows all first bits n (tree_of t h)) (sym (add-one done)) ∙ ap
+            (after_rows all first bits (done + 1)) (sym operand.1),
       )
 
       pub chained : (z : Result ℕ BlockFull) → Quantifies all first bits (done + 1) h roots w new z → Quantifies all first bits done h roots t new z
@@ -118,7 +125,8 @@ module _ (all : Bool) (first bits h : ℕ) (roots : List ℕ) where
         reduced = q.reduced;
         operand_stays = stays (h ∷ []) q.operand_stays (λ j l. at_first j l);
         roots_stay = stays roots q.roots_stay o.roots_stay;
-        fits = λ p a b. ⊎_elim (λ (l : done < p). (let x = q.fits p (omega (arith, l)) b in let y = same_row p in let m = o.room in omega (arith, x, y, m))) (λ (l : p ≤ done). (let e : done ≡ p = omega (arith, a, l) in subst (λ (n : ℕ). row_need all first bits n h roots t ≤ t.room) e here_fits)) (cases_lt done p);
+        fits = λ p a b. ⊎_elim (λ (l : done < p). (let x = q.fits p (omega (arith, l)) b in let y = same_row p in let m = o.room in omega (arith, x, y, m))) (λ (l : p ≤ done). (let e : done
+            ≡ p = omega (arith, a, l) in subst (λ (n : ℕ). row_need all first bits n h roots t ≤ t.room) e here_fits)) (cases_lt done p);
         refused = tt;
       }
         where
@@ -144,7 +152,8 @@ module _ (all : Bool) (first bits h : ℕ) (roots : List ℕ) where
           (let x = e.2 in omega (arith, x)),
           e.3,
           (let x = e.4 in let y = same_row e.0 in let m = o.room in omega (arith, x, y, m)),
-          λ p a b. ⊎_elim (λ (l : done < p). (let x = e.5 p (omega (arith, l)) b in let y = same_row p in let m = o.room in omega (arith, x, y, m))) (λ (l : p ≤ done). (let e : done ≡ p = omega (arith, a, l) in subst (λ (n : ℕ). row_need all first bits n h roots t ≤ t.room) e here_fits)) (cases_lt done p),
+          λ p a b. ⊎_elim (λ (l : done < p). (let x = e.5 p (omega (arith, l)) b in let y = same_row p in let m = o.room in omega (arith, x, y, m))) (λ (l : p ≤ done). (let e : done ≡ p =
+              omega (arith, a, l) in subst (λ (n : ℕ). row_need all first bits n h roots t ≤ t.room) e here_fits)) (cases_lt done p),
         ));
       }
         where
@@ -157,7 +166,8 @@ module _ (all : Bool) (first bits h : ℕ) (roots : List ℕ) where
 
 -- ---- steps
 
-pub rows_cost : (old mid : Shelf) (s k j d b : ℕ) → mid.table.room ≡ old.table.room → mid.memo.entries ≡ old.memo.entries → IsBounded old s k → (IsLarge mid → j + (d + 1) * (6 * handle_pairs mid.table) ≤ k + b * (6 * handle_pairs mid.table)) → IsLarge old → j + d * (6 * handle_pairs old.table) ≤ s + b * (6 * handle_pairs old.table)
+pub rows_cost : (old mid : Shelf) (s k j d b : ℕ) → mid.table.room ≡ old.table.room → mid.memo.entries ≡ old.memo.entries → IsBounded old s k → (IsLarge mid → j + (d + 1) * (6 * handle_pairs
+    mid.table) ≤ k + b * (6 * handle_pairs mid.table)) → IsLarge old → j + d * (6 * handle_pairs old.table) ≤ s + b * (6 * handle_pairs old.table)
 rows_cost old mid s k j d b room entries first rest large =
     let p : (mid.table.room + 2) * (mid.table.room + 3) ≡ (old.table.room + 2) * (old.table.room + 3) = ap (λ (n : ℕ). (n + 2) * (n + 3)) room in
     let q : 6 * handle_pairs mid.table ≡ 6 * handle_pairs old.table = ap (λ (n : ℕ). 6 * ((n + 2) * (n + 2))) room in

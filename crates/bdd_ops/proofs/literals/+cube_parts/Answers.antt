@@ -12,4 +12,5 @@ returns-in-empty t c =
 
 pub returns-in_ok-rest-in-len1-up : goal.returns-in_ok-rest-in-len1-up
 returns-in_ok-rest-in-len1-up t c =
-    cube-again c.args.literals.now _ c.args.table.now c.cube_parts.new.table c.put_literal.new.table c.in_ok-rest-in-len1-up.rest c.put_literal.result c.in-len1-up.len_at_least c.in_ok-rest-in-len1-up.ensures c.put_literal.ensures
+    cube-again c.args.literals.now _ c.args.table.now c.cube_parts.new.table c.put_literal.new.table c.in_ok-rest-in-len1-up.rest c.put_literal.result c.in-len1-up.len_at_least
+    c.in_ok-rest-in-len1-up.ensures c.put_literal.ensures

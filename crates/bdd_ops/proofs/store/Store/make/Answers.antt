@@ -13,4 +13,5 @@ invariant_of-self c = λ e. sound_kept c.self.inside.table c.make.new.self c.sel
 pub returns-clause-made : goal.returns-clause-made
 returns-clause-made c =
     subst (λ (x : Shelf). Makes (join c.args.level (tree_of x.table c.args.low) (tree_of x.table c.args.high)) x.table c.make.new.self c.make.result) c.self.view_is
-    (makes_node c.self.inside.table c.make.new.self (join c.args.level (tree_of c.self.inside.table c.args.low) (tree_of c.self.inside.table c.args.high)) c.make.result c.make.ensures.valid c.make.ensures.tree c.make.ensures.kept c.make.ensures.held c.make.ensures.err c.make.ensures.shared c.make.ensures.full)
+    (makes_node c.self.inside.table c.make.new.self (join c.args.level (tree_of c.self.inside.table c.args.low) (tree_of c.self.inside.table c.args.high)) c.make.result c.make.ensures.valid
+    c.make.ensures.tree c.make.ensures.kept c.make.ensures.held c.make.ensures.err c.make.ensures.shared c.make.ensures.full)

@@ -3,4 +3,5 @@ use Rattle.bdd_ops.proofs.store.Store.remember.Goals as goal
 
 pub invariant_of-self : goal.invariant_of-self
 invariant_of-self c =
-    λ e. sound_stored c.self.inside.table c.self.inside.cache c.store.new.self (record { op = c.args.key.op; left = c.args.key.left; right = c.args.key.right }) c.args.answer c.store.result c.requires.other (c.self.invariant e) c.store.ensures.stored c.store.ensures.kept
+    λ e. sound_stored c.self.inside.table c.self.inside.cache c.store.new.self (record { op = c.args.key.op; left = c.args.key.left; right = c.args.key.right }) c.args.answer c.store.result
+    c.requires.other (c.self.invariant e) c.store.ensures.stored c.store.ensures.kept
