@@ -91,6 +91,7 @@ impl Store {
         requires below_high { level < top (tree_of self.old.table high) }
         ensures made { Makes (join level (tree_of self.old.table low) (tree_of self.old.table high)) self.old.table self.new.table result }
         ensures memo { self.new.memo ≡ self.old.memo }
+        ensures sound { IsSound self.old.table self.old.memo.pairs → IsSound self.new.table self.new.memo.pairs }
     {
         self.table.make(level, low, high)
     }
@@ -113,6 +114,7 @@ impl Store {
         ensures kept { result ≡ false → self.new.memo ≡ self.old.memo }
         ensures entries { self.new.memo.entries ≡ self.old.memo.entries }
         ensures table { self.new.table ≡ self.old.table }
+        ensures sound { IsSound self.old.table self.old.memo.pairs → IsSound self.new.table self.new.memo.pairs }
     {
         self.cache.store(key, answer)
     }
