@@ -94,6 +94,14 @@ impl NodeTable {
         Handle { number: 1 }
     }
 
+    /// How many nodes fit.
+    pub fn room(&self) -> u32
+        ensures room { result ≡ self.now.room }
+        ensures bound { result ≤ 4194304 }
+    {
+        self.room
+    }
+
     /// How many nodes are held.
     pub fn live(&self) -> u32
         ensures live { result ≡ live_of self.now }

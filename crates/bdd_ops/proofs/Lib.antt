@@ -1,0 +1,16 @@
+pub mod Values
+pub mod AtOnce
+pub mod Splitting
+pub mod Growing
+pub mod Memo
+pub mod Stages
+pub mod Bounds
+pub mod Tries
+pub mod Whole
+pub mod LevelLaws
+pub mod Rest
+pub mod Descending
+pub mod LevelBounds
+pub mod WholeLevel
+pub mod Cubes
+pub mod Walks

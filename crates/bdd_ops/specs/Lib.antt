@@ -1,0 +1,11 @@
+pub mod Apply
+pub mod Numbers
+pub mod Parts
+pub mod Split
+pub mod Applied
+pub mod Shelf
+pub mod Operates
+pub mod Level
+pub mod Cube
+pub mod Reading
+pub mod Lent

@@ -1,0 +1,205 @@
+//! A table and the memo of its operations.
+
+ghost use Rattle.std.specs.Prelude.{◌≡◌, [], ◌+◌, ◌*◌, ◌<◌, ◌≤◌, ◌↔◌, true, false, None, length, IfOk};
+ghost use Rattle.std.specs.Borrow.{sem};
+ghost use Rattle.node_tree.specs.Tree.{join, top};
+ghost use Rattle.node_table.specs.Table.{tree_of, IsValid, held, live_of, IsShared};
+ghost use Rattle.op_cache.specs.Memo.{result_at, Adds};
+ghost use Rattle.node_table.specs.Collects.{AllValid, Collects};
+ghost use Rattle.bdd_ops.specs.Applied.{IsSound, Makes};
+ghost use Rattle.bdd_ops.specs.Shelf.{IsLarge, HasRoom};
+ghost use Rattle.bdd_ops.specs.Operates.{AllStay};
+ghost use Rattle.bdd_ops.specs.Lent.{LendsTable, LendsMemo};
+
+use mon_base::NoMemory;
+use node_table::{Full, Handle, NodeTable};
+use op_cache::{Key, OpCache};
+use std::alloc::Global;
+use std::marker::Model;
+
+/// Roots, operands and result have together more distinct branches than the table has nodes.
+#[derive(Clone, Copy, Debug, PartialEq, Eq)]
+pub struct NodesFull;
+
+/// A table and the memo of its operations.
+#[derive(Drop)]
+pub struct Store {
+    pub(crate) table: NodeTable,
+    pub(crate) cache: OpCache<Handle>,
+    /// Whether the memo is known to hold results alone.
+    pub(crate) sound: bool,
+    /// The number of nodes held at which the next operation collects before it begins.
+    limit: u32,
+}
+
+/// The least number of nodes held at which an operation collects before it begins.
+const CROWD: u32 = 8192;
+
+impl Model for Store {
+    ghost use Rattle.bdd_ops.specs.Shelf.{Shelf};
+
+    ghost Value = { Shelf };
+
+    ghost use Rattle.std.specs.Prelude.{◌≡◌, true};
+    ghost use Rattle.bdd_ops.specs.Applied.{IsSound};
+
+    ghost view = { λ s. record { table = s.table; memo = s.cache } };
+
+    ghost invariant = { λ s. s.sound ≡ true → IsSound s.table s.cache.pairs };
+}
+
+impl Store {
+    /// An empty table for so many nodes, from 2 to 4,194,304, and a memo for so many results, from 4 to 8,388,608.
+    pub fn open(alloc: Global, nodes: u32, entries: u32) -> Result<Store, NoMemory>
+        requires two { 2 ≤ nodes }
+        requires bound { nodes ≤ 4194304 }
+        requires four { 4 ≤ entries }
+        requires most { entries ≤ 8388608 }
+        ensures room { IfOk result (λ s. s.table.room ≡ nodes) }
+        ensures empty { IfOk result (λ s. held s.table ≡ []) }
+        ensures shared { IfOk result (λ s. IsShared s.table) }
+        ensures memo { IfOk result (λ s. s.memo ≡ record { entries = entries; pairs = [] }) }
+    {
+        Ok(Store {
+            table: NodeTable::open(alloc, nodes)?,
+            cache: OpCache::open(alloc, entries)?,
+            sound: false,
+            limit: CROWD,
+        })
+    }
+
+    /// The table.
+    pub fn table(&self) -> &NodeTable
+        ensures { result.now ≡ self.now.table }
+    {
+        &self.table
+    }
+
+    /// How many nodes are held.
+    pub fn live(&self) -> u32
+        ensures live { result ≡ live_of self.now.table }
+        ensures shared { IsShared self.now.table }
+    {
+        self.table.live()
+    }
+
+    /// `NodeTable::make`, which leaves the memo right where it was.
+    pub fn make(&mut self, level: u16, low: Handle, high: Handle) -> Result<Handle, Full>
+        requires low { IsValid self.old.table low }
+        requires high { IsValid self.old.table high }
+        requires below_low { level < top (tree_of self.old.table low) }
+        requires below_high { level < top (tree_of self.old.table high) }
+        ensures made { Makes (join level (tree_of self.old.table low) (tree_of self.old.table high)) self.old.table self.new.table result }
+        ensures memo { self.new.memo ≡ self.old.memo }
+        ensures sound { IsSound self.old.table self.old.memo.pairs → IsSound self.new.table self.new.memo.pairs }
+    {
+        self.table.make(level, low, high)
+    }
+
+    /// What was stored for a key since all was forgotten.
+    pub fn find(&self, key: Key<Handle>) -> Option<Handle>
+        ensures { result ≡ result_at self.now.memo.pairs (record { op = key.op; left = key.left; right = key.right }) }
+    {
+        self.cache.find(key)
+    }
+
+    /// Stores the result of a key that has none, of an operation of a crate above. False where the memo holds all that
+    /// it can, and then nothing changes. The memo is right where it was: numbers from 5 on are no operation on two
+    /// trees.
+    pub fn remember(&mut self, key: Key<Handle>, answer: Handle) -> bool
+        requires absent { result_at self.old.memo.pairs (record { op = key.op; left = key.left; right = key.right }) ≡ None }
+        requires other { 5 ≤ key.op }
+        ensures full { (result ≡ false) ↔ (length self.old.memo.pairs ≡ self.old.memo.entries) }
+        ensures stored { result ≡ true → Adds self.old.memo.pairs (record { op = key.op; left = key.left; right = key.right }) answer self.new.memo.pairs }
+        ensures kept { result ≡ false → self.new.memo ≡ self.old.memo }
+        ensures entries { self.new.memo.entries ≡ self.old.memo.entries }
+        ensures table { self.new.table ≡ self.old.table }
+        ensures sound { IsSound self.old.table self.old.memo.pairs → IsSound self.new.table self.new.memo.pairs }
+    {
+        self.cache.store(key, answer)
+    }
+
+    /// The table, to be changed. The memo is then no longer known to be right.
+    pub fn table_mut(&mut self) -> &mut NodeTable
+        ensures* writes_back { sem 𝓛 (LendsTable self.entry result) }
+        ensures value { result.now ≡ self.old.table }
+    {
+        self.sound = false;
+        &mut self.table
+    }
+
+    /// The memo, to be changed. It is then no longer known to be right.
+    pub fn cache_mut(&mut self) -> &mut OpCache<Handle>
+        ensures* writes_back { sem 𝓛 (LendsMemo self.entry result) }
+        ensures value { result.now ≡ self.old.memo }
+    {
+        self.sound = false;
+        &mut self.cache
+    }
+
+    /// How many results of an operation there should be room for: all that it can have, where the memo is large enough.
+    fn wanted(&self) -> u64
+        ensures { IsLarge self.now → result ≡ (self.now.table.room + 2) * (self.now.table.room + 3) }
+    {
+        let nodes = self.table.room() as u64;
+        let all = (nodes + 2) * (nodes + 3);
+        let entries = self.cache.held() as u64 + self.cache.room() as u64;
+        if all <= entries { all } else { entries / 2 }
+    }
+
+    /// Makes the memo ready for an operation. It forgets all where that isn't known to be right, or has little room
+    /// left.
+    pub fn prepare(&mut self)
+        ensures table { self.new.table ≡ self.old.table }
+        ensures entries { self.new.memo.entries ≡ self.old.memo.entries }
+        ensures sound { IsSound self.new.table self.new.memo.pairs }
+        ensures room { IsLarge self.new → HasRoom self.new }
+    {
+        if !self.sound || (self.cache.room() as u64) < self.wanted() {
+            self.cache.begin();
+            self.sound = true;
+        }
+    }
+
+    /// Forgets all results.
+    pub fn forget(&mut self)
+        ensures table { self.new.table ≡ self.old.table }
+        ensures memo { self.new.memo ≡ record { entries = self.old.memo.entries; pairs = [] } }
+    {
+        self.cache.begin();
+        self.sound = true;
+    }
+
+    /// Keeps the nodes of the trees of both lists alone, and forgets all results.
+    pub fn tidy(&mut self, roots: &[Handle], more: &[Handle])
+        requires roots { AllValid self.old.table roots.now }
+        requires more { AllValid self.old.table more.now }
+        ensures collected { Collects self.old.table self.new.table roots.now more.now }
+        ensures shared { IsShared self.new.table }
+        ensures memo { self.new.memo ≡ record { entries = self.old.memo.entries; pairs = [] } }
+    {
+        self.table.collect(roots, more);
+        self.cache.begin();
+        self.sound = true;
+        self.limit = self.table.live().saturating_mul(4).max(CROWD);
+    }
+
+    /// Makes the store ready for an operation. It collects where four times as many nodes are held as the last
+    /// collection left, since a small table is a fast one, and else only looks after the memo.
+    pub fn make_ready(&mut self, operands: &[Handle], roots: &[Handle])
+        requires operands { AllValid self.old.table operands.now }
+        requires roots { AllValid self.old.table roots.now }
+        ensures nodes { self.new.table.room ≡ self.old.table.room }
+        ensures operands { AllStay self.old.table self.new.table operands.now }
+        ensures roots { AllStay self.old.table self.new.table roots.now }
+        ensures entries { self.new.memo.entries ≡ self.old.memo.entries }
+        ensures sound { IsSound self.new.table self.new.memo.pairs }
+        ensures room { IsLarge self.new → HasRoom self.new }
+    {
+        if self.table.live() >= self.limit {
+            self.tidy(roots, operands);
+        } else {
+            self.prepare();
+        }
+    }
+}

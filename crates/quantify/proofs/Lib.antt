@@ -1,0 +1,2 @@
+pub mod Quantifying
+pub mod Rowing

@@ -1,0 +1,11 @@
+//! Quantification over bits of diagrams.
+
+#![tactic(auto)]
+
+mod bit;
+mod block;
+#[cfg(test)]
+mod tests;
+
+pub use bit::quantify_bit;
+pub use block::{BlockFull, quantify_block};
