@@ -71,6 +71,7 @@ impl LogReader {
     /// The bytes fed are the whole log.
     pub fn end(&mut self)
         ensures ended { self.new.ended ≡ true }
+        ensures timed { self.new.timed ≡ self.old.timed }
         ensures given { self.new.given ≡ self.old.given }
         ensures stands { (bytes : tree.Text) → Stands bytes self.old → Stands bytes self.new }
     {
@@ -86,6 +87,7 @@ impl LogReader {
         ensures given { self.new.given ≡ given_next self.old.given result }
         ensures most { self.new.given ≤ self.old.given + 1 }
         ensures ended { self.new.ended ≡ self.old.ended }
+        ensures timed { self.new.timed ≡ self.old.timed }
         ensures fault { IfErr result (λ f. f ≢ LogFault.NoMemory → self.new.fault ≡ Some f) }
         ensures again { (f : declared.LogFault) → self.old.fault ≡ Some f → (result ≡ Err f) × (self.new ≡ self.old) }
     {

@@ -291,6 +291,7 @@ impl State {
         requires room { self.old.given + 1 < 2 ^ 64 }
         ensures sound { IsState self.new }
         ensures ended { self.new.ended ≡ self.old.ended }
+        ensures timed { self.new.timed ≡ self.old.timed }
         ensures given { self.new.given ≡ given_next self.old.given result }
         ensures fault { IfErr result (λ f. f ≢ LogFault.NoMemory → self.new.fault ≡ Some f) }
         ensures sought { (bytes : tree.Text) → Goes bytes (reading_of self.old) → Sought bytes (reading_of self.old) (reading_of self.new) result }
@@ -366,6 +367,7 @@ impl State {
         requires room { self.old.given + 1 < 2 ^ 64 }
         ensures sound { IsState self.new }
         ensures ended { self.new.ended ≡ self.old.ended }
+        ensures timed { self.new.timed ≡ self.old.timed }
         ensures given { self.new.given ≡ given_next self.old.given result }
         ensures fault { IfErr result (λ f. f ≢ LogFault.NoMemory → self.new.fault ≡ Some f) }
         ensures again { (f : declared.LogFault) → self.old.fault ≡ Some f → (result ≡ Err f) × (reading_of self.new ≡ reading_of self.old) }

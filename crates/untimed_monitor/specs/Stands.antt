@@ -1,5 +1,5 @@
 -- What a monitor stands for.
-use Rattle.std.specs.Prelude.{◌≡◌, ℕ, ◌+◌, ◌<◌, ◌≤◌, List, ◌∷◌, ◌++◌, length, Bool, false, Some, get_or, slice_get}
+use Rattle.std.specs.Prelude.{◌≡◌, ℕ, ◌+◌, ◌-◌, ◌<◌, ◌≤◌, List, ◌∷◌, ◌++◌, map, length, Bool, false, Some, get_or, slice_get}
 use Rattle.std.specs.List.{AllByRecursion, list_any}
 use Rattle.qtl_truth.specs.declared.event.Event.{Event}
 use Rattle.subformulas.specs.Table.{Table, is_timed}
@@ -33,6 +33,10 @@ pub record IsSound (m : State) : Type 0 where
   pub plain : IsPlain m.plan
   pub truths : length m.truths ≡ length m.plan.subs
   pub kept : length m.kept ≡ length m.plan.subs
+
+-- the verdicts of the properties at the last event, in order
+abbrev pub row_of : State → List Bool
+row_of m = map (λ q. get_or m.truths (q.root - 1) false) m.plan.props
 
 -- each row keeps what its kind asks for at position i of the log
 abbrev pub AreKept : List Sub → List Event → ℕ → List Bool → Type 0

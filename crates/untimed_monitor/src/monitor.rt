@@ -4,7 +4,7 @@ ghost use Rattle.std.specs.Option.{option_map};
 ghost use Rattle.qtl_truth.specs.declared.event.Event.{Event as TheEvent};
 ghost use Rattle.subformulas.specs.Unfolded.{formula_at};
 ghost use Rattle.untimed_monitor.specs.Kept.{kept_first, Tells};
-ghost use Rattle.untimed_monitor.specs.Stands.{IsPlain, AreKept, Walks, StandsFor};
+ghost use Rattle.untimed_monitor.specs.Stands.{IsPlain, AreKept, Walks, StandsFor, row_of};
 
 use crate::row::{kept_by, truth_of};
 use qtl_truth::Event;
@@ -120,7 +120,8 @@ impl UntimedMonitor {
     /// Whether property p, counted from 0, holds at the last event.
     pub fn verdict(&self, p: u32) -> bool
         requires { p < length self.now.plan.props }
-        ensures { (log : List TheEvent) (root : ℕ) → StandsFor self.now log → 1 ≤ length log →
+        ensures row { slice_get (row_of self.now) p ≡ Some result }
+        ensures truth { (log : List TheEvent) (root : ℕ) → StandsFor self.now log → 1 ≤ length log →
             option_map (λ q. q.root) (slice_get self.now.plan.props p) ≡ Some root →
             Tells result log (formula_at self.now.plan.subs root) (length log) }
     {
