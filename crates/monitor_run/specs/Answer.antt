@@ -1,18 +1,26 @@
 -- What is written at each end of a run, and when that end comes.
-use Rattle.std.specs.Prelude.{◌≡◌, ◌≢◌, ℕ, ◌<◌, ◌≤◌, ◌⊎◌, ⊤, List, [], ◌∷◌, ◌++◌, length, take, map, Bool, true, Option, IsSomeAnd, codes, decimal}
-use Rattle.std.specs.List.{list_all}
+use Rattle.std.specs.Prelude.{◌≡◌, ◌≢◌, ℕ, zero, suc, ◌<◌, ◌≤◌, ◌⊎◌, ⊤, List, [], ◌∷◌, ◌++◌, length, Bool, false, Option, Some, None, IsSomeAnd, codes, decimal}
+use Rattle.std.specs.List.{list_any}
 use Rattle.std.specs.Io.KnownBytes.{Appends}
 use Rattle.mon_base.specs.Told.{text_of}
-use Rattle.qtl_syntax.specs.Tree.{Text, Formula, Item, Prop}
-use Rattle.qtl_syntax.specs.FirstForms.{IsFirst, IsFirstItems}
+use Rattle.qtl_syntax.specs.Tree.{Text, Item}
 use Rattle.qtl_syntax.specs.Faults.{SpellsWithin, IsFault}
 use Rattle.qtl_syntax.specs.declared.fault.SpecFault.{SpecFault}
 use Rattle.qtl_syntax.specs.declared.fault.SpecFault.TheVariants as spec_fault
-use Rattle.monitor_run.specs.Lines.{text_of_lines, event_of, is_plain, may_become_plain, BeginsOddly, IsOdd}
+use Rattle.qtl_truth.specs.declared.event.Event.{Event}
+use Rattle.wellformed.specs.Expansion.{expanded_props, props_variables}
+use Rattle.wellformed.specs.Faults.{first_fault}
+use Rattle.wellformed.specs.Timed.{has_timed}
+use Rattle.wellformed.specs.declared.fault.NameFault.{NameFault}
+use Rattle.wellformed.specs.declared.fault.NameFault.TheVariants as name_fault
+use Rattle.log_reader.specs.Records as log_records
+use Rattle.log_reader.specs.declared.fault.LogFault.{LogFault}
+use Rattle.log_reader.specs.declared.fault.LogFault.TheVariants as log_fault
+use Rattle.monitor_run.specs.Records.{records, IsFaultAt}
 use Rattle.monitor_run.specs.Report.{violation_lines}
-use Rattle.monitor_run.specs.Verdicts.{AreVerdicts, false_count}
+use Rattle.monitor_run.specs.Verdicts.{properties, names, AreVerdicts, false_count}
 use Rattle.monitor_run.specs.declared.end.End.{End}
-use Rattle.monitor_run.specs.declared.end.End.TheVariants.{AllTrue, Violated, Usage, SpecTooLong, Spec, NotBuilt, LogTooLong, OpenFault, ReadFault, WriteFault, NoMemory}
+use Rattle.monitor_run.specs.declared.end.End.TheVariants.{AllTrue, Violated, Usage, SpecTooLong, Spec, Names, NotBuilt, Log, LogTooLong, OpenFault, ReadFault, WriteFault, NoMemory}
 use Rattle.monitor_run.specs.declared.end.Which.{Which}
 use Rattle.monitor_run.specs.declared.end.Which.TheVariants as file
 use Rattle.monitor_run.specs.declared.TheConstants.{MAX_SPEC, MAX_LOG}
@@ -24,12 +32,19 @@ status_of (Violated count) = 1
 status_of Usage = 2
 status_of SpecTooLong = 3
 status_of (Spec fault) = 3
+status_of (Names fault) = 3
+status_of (Log fault) = 4
 status_of (LogTooLong limit) = 4
 status_of (OpenFault which) = 6
 status_of (ReadFault which) = 6
 status_of WriteFault = 6
 status_of NoMemory = 7
 status_of NotBuilt = 8
+
+-- the end of a log that was judged whole, with so many false verdicts
+abbrev pub end_of_verdicts : ℕ → End
+end_of_verdicts zero = AllTrue
+end_of_verdicts (suc n) = Violated (suc n)
 
 -- an open or read fault is answered only where the files' count rose, a write fault only where the output's did
 abbrev pub HasFaultCause : Type 0 → Type 0 → End → Type 0
@@ -52,17 +67,52 @@ IsDecided (Violated count) = ⊤
 IsDecided Usage = ⊤
 IsDecided SpecTooLong = ⊤
 IsDecided (Spec fault) = ⊤
+IsDecided (Names fault) = ⊤
 IsDecided NotBuilt = ⊤
+IsDecided (Log fault) = ⊤
 IsDecided (LogTooLong limit) = ⊤
 IsDecided _ = ⊥
 
--- the line that tells why a specification is refused, and where
+-- the line that tells why a specification is refused by its grammar, and where
 abbrev pub fault_line : SpecFault → Text
 fault_line (spec_fault.NotToken at) = codes "stopped: no token at byte " ++ (decimal at ++ codes "\n")
 fault_line (spec_fault.Syntax at) = codes "stopped: syntax at token " ++ (decimal at ++ codes "\n")
 fault_line (spec_fault.TooDeep at) = codes "stopped: too deep at token " ++ (decimal at ++ codes "\n")
 fault_line (spec_fault.BoundTooLarge at) = codes "stopped: bound too large at token " ++ (decimal at ++ codes "\n")
 fault_line spec_fault.NoMemory = []
+
+-- the line that tells why it is refused by its names, and where
+abbrev pub in_item : Text → ℕ → Text
+in_item head item = head ++ (codes " in item " ++ (decimal item ++ codes "\n"))
+
+abbrev pub at_node : Text → ℕ → ℕ → Text
+at_node head item node = head ++ (codes " in item " ++ (decimal item ++ (codes " at node " ++ (decimal node ++ codes "\n"))))
+
+abbrev pub name_line : NameFault → Text
+name_line (name_fault.DuplicateName item) = in_item (codes "stopped: duplicate name") item
+name_line (name_fault.LateMacro item node) = at_node (codes "stopped: late macro") item node
+name_line (name_fault.MacroArity item node) = at_node (codes "stopped: wrong number of macro terms") item node
+name_line (name_fault.ArityClash item node) = at_node (codes "stopped: clash of arities") item node
+name_line (name_fault.FreeVariable item node) = at_node (codes "stopped: free variable") item node
+name_line name_fault.NoProperty = codes "stopped: no property\n"
+name_line (name_fault.TooManySubformulas found) = codes "stopped: too many subformulas, " ++ (decimal found ++ codes "\n")
+name_line (name_fault.TooManyVariables found) = codes "stopped: too many variables, " ++ (decimal found ++ codes "\n")
+name_line name_fault.NoMemory = []
+
+-- the line that tells why the log has no further event, and in which record
+abbrev pub at_record : Text → ℕ → Text
+at_record head number = head ++ (codes " at record " ++ (decimal number ++ codes "\n"))
+
+abbrev pub log_line : LogFault → Text
+log_line (log_fault.QuoteOpen number) = at_record (codes "stopped: quote not closed") number
+log_line (log_fault.AfterQuote number) = at_record (codes "stopped: text after quote") number
+log_line (log_fault.RecordTooLong number) = at_record (codes "stopped: record too long") number
+log_line (log_fault.TooManyFields number) = at_record (codes "stopped: too many fields") number
+log_line (log_fault.EmptyName number) = at_record (codes "stopped: empty name") number
+log_line (log_fault.BadTime number) = at_record (codes "stopped: bad time") number
+log_line (log_fault.TimeBack number before now) =
+    codes "stopped: time falls from " ++ (decimal before ++ (codes " to " ++ (decimal now ++ (codes " at record " ++ (decimal number ++ codes "\n")))))
+log_line log_fault.NoMemory = []
 
 -- how a last line calls the file
 abbrev pub file_text : Which → Text
@@ -76,6 +126,8 @@ last_line (Violated count) events = codes "events " ++ (decimal events ++ (codes
 last_line Usage events = codes "stopped: usage: dejavu SPEC LOG\n"
 last_line SpecTooLong events = codes "stopped: specification longer than 1048576 bytes\n"
 last_line (Spec fault) events = fault_line fault
+last_line (Names fault) events = name_line fault
+last_line (Log fault) events = log_line fault
 last_line NotBuilt events = codes "stopped: not built\n"
 last_line (LogTooLong limit) events = codes "stopped: log longer than " ++ (decimal limit ++ codes " bytes\n")
 last_line (OpenFault which) events = codes "stopped: cannot open " ++ (file_text which ++ codes "\n")
@@ -91,102 +143,122 @@ IsTooLong spec = IsSomeAnd spec (λ text. MAX_SPEC < length text)
 abbrev pub HasFault : Option Text → SpecFault → Type 0
 HasFault spec fault = (fault ≢ spec_fault.NoMemory) × IsSomeAnd spec (λ text. (length text ≤ MAX_SPEC) × IsFault text fault)
 
--- the specification spells items within the limits, which aren't one property of the first forms
+-- the specification spells these items within the limits
+abbrev pub Spells : Option Text → List Item → Type 0
+Spells spec items = IsSomeAnd spec (λ text. (length text ≤ MAX_SPEC) × SpellsWithin text items)
+
+-- their names have this fault, the first one of the first pass that has one
+abbrev pub HasNameFault : Option Text → NameFault → Type 0
+HasNameFault spec fault = (items : List Item) × Spells spec items × (first_fault items ≡ Some fault)
+
+-- no property has a quantifier or a timed operator, once its macros are expanded
+abbrev pub IsBuilt : List Item → Type 0
+IsBuilt items = (length (props_variables [] 0 items) ≡ 0) × (list_any (λ p. has_timed p.1) (expanded_props [] 0 items) ≡ false)
+
 abbrev pub IsNotBuilt : Option Text → Type 0
-IsNotBuilt spec = IsSomeAnd spec (λ text. (length text ≤ MAX_SPEC) × (items : List Item) × SpellsWithin text items × (¬ IsFirstItems items))
+IsNotBuilt spec = (items : List Item) × Spells spec items × (first_fault items ≡ None) × (¬ IsBuilt items)
 
--- the specification spells one property of the first forms, of this name and formula
-abbrev pub IsProperty : Option Text → Text → Formula → Type 0
-IsProperty spec name f = IsSomeAnd spec (λ text. (length text ≤ MAX_SPEC) × SpellsWithin text (Prop name f ∷ []) × IsFirst f)
+-- the specification is accepted, and these are its items
+pub record Accepts (spec : Option Text) (items : List Item) : Type 0 where
+  pub spelled : Spells spec items
+  pub clear : first_fault items ≡ None
+  pub built : IsBuilt items
 
--- these first bytes of a log are plain lines, and then the bytes of a line begun; the lines are events with these
--- verdicts, by the definition of truth; and the body is the violations
-pub record Judged (name : Text) (f : Formula) (given begun : Text) (verdicts : List Bool) (body : Text) : Type 0 where
-  pub lines : List Text
-  pub cut : given ≡ text_of_lines lines ++ begun
-  pub plain : list_all is_plain lines ≡ true
-  pub right : AreVerdicts (map event_of lines) f verdicts
-  pub written : body ≡ violation_lines 1 name verdicts
+-- These events were judged: of their verdicts, by the definition of truth, so many are false, and the body is the lines of
+-- these.
+pub record Judged (items : List Item) (log : List Event) (events violations : ℕ) (body : Text) : Type 0 where
+  pub rows : List (List Bool)
+  pub right : AreVerdicts log (properties items) rows
+  pub counted : events ≡ length log
+  pub false_ones : violations ≡ false_count rows
+  pub written : body ≡ violation_lines 1 (names (properties items)) rows
 
--- all of the log was judged, with so many events and violations
-abbrev pub WholeLog : Text → Formula → Option Text → ℕ → ℕ → Text → Type 0
-WholeLog name f log events violations body =
-    IsSomeAnd log (λ all. (verdicts : List Bool) × Judged name f all [] verdicts body × (length all ≤ MAX_LOG)
-    × (events ≡ length verdicts) × (violations ≡ false_count verdicts))
+-- all records of a log of at most so many bytes are events, and all were judged
+abbrev pub WholeLog : List Item → ℕ → Text → ℕ → ℕ → Text → Type 0
+WholeLog items limit all events violations body =
+    (length all ≤ limit) × ((records limit all).end ≡ log_records.Rest) × Judged items (records limit all).events events violations body
 
--- what is written before the last line of an end that the log leads to
-abbrev pub LogBody : End → Text → Formula → Option Text → ℕ → Text → Type 0
-LogBody AllTrue name f log events body = WholeLog name f log events 0 body
-LogBody (Violated count) name f log events body = (0 < count) × WholeLog name f log events count body
-LogBody NotBuilt name f log events body =
-    IsSomeAnd log (λ all. (given : Text) × (rest : Text) × (begun : Text) × (verdicts : List Bool) × (all ≡ given ++ rest) × (length given ≤ MAX_LOG)
-    × Judged name f given begun verdicts body × (IsOdd begun ⊎ ((rest ≡ []) × BeginsOddly begun)))
-LogBody (LogTooLong limit) name f log events body =
-    (limit ≡ MAX_LOG) × IsSomeAnd log (λ all. (begun : Text) × (verdicts : List Bool) × (MAX_LOG < length all)
-    × Judged name f (take MAX_LOG all) begun verdicts body × (may_become_plain begun ≡ true))
-LogBody (OpenFault file.Log) name f log events body = body ≡ []
-LogBody (ReadFault file.Log) name f log events body =
-    IsSomeAnd log (λ all. (given : Text) × (rest : Text) × (begun : Text) × (verdicts : List Bool) × (all ≡ given ++ rest) × (length given ≤ MAX_LOG)
-    × Judged name f given begun verdicts body × (may_become_plain begun ≡ true))
-LogBody _ name f log events body = ⊥
+-- What is written before the last line of an end that the log leads to. A log whose read fails gave some bytes, and what it
+-- has not given is left unread.
+abbrev pub LogBody : End → List Item → ℕ → Text → (Text → Type 0) → ℕ → Text → Type 0
+LogBody AllTrue items limit all unread events body = WholeLog items limit all events 0 body
+LogBody (Violated count) items limit all unread events body = (0 < count) × WholeLog items limit all events count body
+LogBody (Log fault) items limit all unread events body =
+    IsFaultAt (records limit all).end fault × (violations : ℕ) × Judged items (records limit all).events events violations body
+LogBody (LogTooLong most) items limit all unread events body =
+    (most ≡ limit) × (limit < length all) × ((records limit all).end ≡ log_records.Rest)
+    × (violations : ℕ) × Judged items (records limit all).events events violations body
+LogBody (ReadFault file.Log) items limit all unread events body =
+    (given : Text) × (rest : Text) × (all ≡ given ++ rest) × unread rest × (length given ≤ limit)
+    × ((log_records.cut given false false).end ≡ log_records.Rest) × (violations : ℕ) × Judged items (log_records.cut given false false).events events violations body
+LogBody _ items limit all unread events body = ⊥
 
--- the specification is a property, and its log leads to this end
-pub record Checked (end : End) (spec log : Option Text) (events : ℕ) (body : Text) : Type 0 where
-  pub name : Text
-  pub formula : Formula
-  pub property : IsProperty spec name formula
-  pub log_body : LogBody end name formula log events body
+-- the specification is accepted, and its log leads to this end
+pub record Checked (end : End) (spec log : Option Text) (unread : Text → Type 0) (events : ℕ) (body : Text) : Type 0 where
+  pub items : List Item
+  pub accepted : Accepts spec items
+  pub log_body : IsSomeAnd log (λ all. LogBody end items MAX_LOG all unread events body)
 
 -- what is written before the last line of an end that two words lead to
-abbrev pub IsBody : End → Option Text → Option Text → ℕ → Text → Type 0
-IsBody (OpenFault file.Spec) spec log events body = body ≡ []
-IsBody (ReadFault file.Spec) spec log events body = body ≡ []
-IsBody SpecTooLong spec log events body = IsTooLong spec × (body ≡ [])
-IsBody (Spec fault) spec log events body = HasFault spec fault × (body ≡ [])
-IsBody NotBuilt spec log events body = (IsNotBuilt spec × (body ≡ [])) ⊎ Checked NotBuilt spec log events body
-IsBody end spec log events body = Checked end spec log events body
+abbrev pub IsBody : End → Option Text → Option Text → (Text → Type 0) → ℕ → Text → Type 0
+IsBody (OpenFault file.Spec) spec log unread events body = body ≡ []
+IsBody (ReadFault file.Spec) spec log unread events body = body ≡ []
+IsBody (OpenFault file.Log) spec log unread events body = (items : List Item) × Accepts spec items × (body ≡ [])
+IsBody SpecTooLong spec log unread events body = IsTooLong spec × (body ≡ [])
+IsBody (Spec fault) spec log unread events body = HasFault spec fault × (body ≡ [])
+IsBody (Names fault) spec log unread events body = HasNameFault spec fault × (body ≡ [])
+IsBody NotBuilt spec log unread events body = IsNotBuilt spec × (body ≡ [])
+IsBody end spec log unread events body = Checked end spec log unread events body
 
 -- the same for any words
-abbrev pub IsBodyFor : List (Text × Text) → List Text → End → ℕ → Text → Type 0
-IsBodyFor texts (spec ∷ log ∷ []) end events body = IsBody end (text_of texts spec) (text_of texts log) events body
-IsBodyFor texts words end events body = (end ≡ Usage) × (body ≡ [])
+abbrev pub IsBodyFor : List (Text × Text) → List Text → End → (Text → Type 0) → ℕ → Text → Type 0
+IsBodyFor texts (spec ∷ log ∷ []) end unread events body = IsBody end (text_of texts spec) (text_of texts log) unread events body
+IsBodyFor texts words end unread events body = (end ≡ Usage) × (body ≡ [])
 
 -- all that is written at an end
-pub record IsAnswer (texts : List (Text × Text)) (words : List Text) (end : End) (bytes : Text) : Type 0 where
+pub record IsAnswer (texts : List (Text × Text)) (words : List Text) (unread : Text → Type 0) (end : End) (bytes : Text) : Type 0 where
   pub events : ℕ
   pub body : Text
-  pub reached : IsBodyFor texts words end events body
+  pub reached : IsBodyFor texts words end unread events body
   pub whole : bytes ≡ body ++ last_line end events
 
 -- where the bytes decide an end, that is the end, but for faults and want of memory
 abbrev pub IsExact : List (Text × Text) → List Text → End → Type 0
-IsExact texts words end = (due : End) (bytes : Text) → IsDecided due → IsAnswer texts words due bytes → IsDecided end → end ≡ due
+IsExact texts words end = (due : End) (bytes : Text) → IsDecided due → IsAnswer texts words (λ _. ⊤) due bytes → IsDecided end → end ≡ due
 
--- a front of the violations of whole lines at the front of the log
-pub record IsFrontOfLines (spec log : Option Text) (front : Text) : Type 0 where
-  pub name : Text
-  pub formula : Formula
-  pub property : IsProperty spec name formula
-  pub judged : IsSomeAnd log (λ all. (given : Text) × (rest : Text) × (verdicts : List Bool) × (more : Text) × (all ≡ given ++ rest)
-      × (length given ≤ MAX_LOG) × Judged name formula given [] verdicts (front ++ more))
+-- a front of the violations of events that stand at the front of the log's
+pub record IsFrontOfLines (items : List Item) (limit : ℕ) (all front : Text) : Type 0 where
+  pub log : List Event
+  pub later : List Event
+  pub rows : List (List Bool)
+  pub more : Text
+  pub first : (records limit all).events ≡ log ++ later
+  pub right : AreVerdicts log (properties items) rows
+  pub written : front ++ more ≡ violation_lines 1 (names (properties items)) rows
+
+-- the same, where the specification is accepted
+pub record IsFrontOfReport (spec log : Option Text) (front : Text) : Type 0 where
+  pub items : List Item
+  pub accepted : Accepts spec items
+  pub lines : IsSomeAnd log (λ all. IsFrontOfLines items MAX_LOG all front)
 
 abbrev pub IsFrontOfLog : List (Text × Text) → List Text → Text → Type 0
-IsFrontOfLog texts (spec ∷ log ∷ []) front = IsFrontOfLines (text_of texts spec) (text_of texts log) front
+IsFrontOfLog texts (spec ∷ log ∷ []) front = IsFrontOfReport (text_of texts spec) (text_of texts log) front
 IsFrontOfLog texts words front = ⊥
 
 -- a front of what is written at an end that was reached with its cause
-pub record IsFrontOfAnswer (texts : List (Text × Text)) (words : List Text) (files_rose : Type 0) (front : Text) : Type 0 where
+pub record IsFrontOfAnswer (texts : List (Text × Text)) (words : List Text) (unread : Text → Type 0) (files_rose : Type 0) (front : Text) : Type 0 where
   pub end : End
   pub rest : Text
-  pub answer : IsAnswer texts words end (front ++ rest)
+  pub answer : IsAnswer texts words unread end (front ++ rest)
   pub cause : HasFaultCause files_rose ⊤ end
 
 -- a front of the lines, or of the whole answer that was reached
-abbrev pub IsFront : List (Text × Text) → List Text → Type 0 → Text → Type 0
-IsFront texts words files_rose front = IsFrontOfLog texts words front ⊎ IsFrontOfAnswer texts words files_rose front
+abbrev pub IsFront : List (Text × Text) → List Text → (Text → Type 0) → Type 0 → Text → Type 0
+IsFront texts words unread files_rose front = IsFrontOfLog texts words front ⊎ IsFrontOfAnswer texts words unread files_rose front
 
 -- what was written at an end, where the files tell their texts
-abbrev pub Writes : List (Text × Text) → List Text → Type 0 → Option Text → Option Text → End → Type 0
-Writes texts words files_rose old new WriteFault = (front : Text) × IsFront texts words files_rose front × Appends old new front
-Writes texts words files_rose old new NoMemory = (front : Text) × ((front ≡ []) ⊎ IsFront texts words files_rose front) × Appends old new front
-Writes texts words files_rose old new end = (bytes : Text) × IsAnswer texts words end bytes × Appends old new bytes
+abbrev pub Writes : List (Text × Text) → List Text → (Text → Type 0) → Type 0 → Option Text → Option Text → End → Type 0
+Writes texts words unread files_rose old new WriteFault = (front : Text) × IsFront texts words unread files_rose front × Appends old new front
+Writes texts words unread files_rose old new NoMemory = (front : Text) × ((front ≡ []) ⊎ IsFront texts words unread files_rose front) × Appends old new front
+Writes texts words unread files_rose old new end = (bytes : Text) × IsAnswer texts words unread end bytes × Appends old new bytes

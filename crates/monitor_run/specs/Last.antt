@@ -12,8 +12,9 @@ abbrev pub Sends : End → Text → Option Text → Option Text → Type 0 → E
 Sends reached bytes old new rose end =
     ((end ≡ reached) × Appends old new bytes) ⊎ ((end ≡ WriteFault) × rose × AppendsFront old new bytes)
 
--- what was held back and the last line are written, but where a write has failed or there is no memory
+-- What was held back and the last line are written. Where there is no memory there is no last line, and where a write has
+-- failed nothing more is written.
 abbrev pub Finishes : End → ℕ → Text → Option Text → Option Text → Type 0 → End → Type 0
 Finishes WriteFault events held old new rose end = (end ≡ WriteFault) × Appends old new []
-Finishes NoMemory events held old new rose end = (end ≡ NoMemory) × Appends old new []
+Finishes NoMemory events held old new rose end = (end ≡ NoMemory) × AppendsFront old new held
 Finishes reached events held old new rose end = Sends reached (held ++ last_line reached events) old new rose end

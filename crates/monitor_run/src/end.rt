@@ -1,8 +1,10 @@
 //! How a run ends.
 ghost use Rattle.std.specs.Prelude.{◌≡◌};
-ghost use Rattle.monitor_run.specs.Properties.{end_of_fault};
+ghost use Rattle.monitor_run.specs.Specification.{end_of_fault, end_of_log, end_of_names};
 
+use log_reader::LogFault;
 use qtl_syntax::SpecFault;
+use wellformed::NameFault;
 
 /// One of the two files that the words name.
 #[derive(Clone, Copy, Debug, PartialEq, Eq)]
@@ -24,8 +26,12 @@ pub enum End {
     SpecTooLong,
     /// The specification has this fault, which is never want of memory.
     Spec(SpecFault),
-    /// The specification isn't one property of the forms that are built, or a line of the log isn't plain.
+    /// Its names have this fault, the first one of the first pass that has one, which is never want of memory.
+    Names(NameFault),
+    /// A property has a quantifier or a timed operator, once its macros are expanded.
     NotBuilt,
+    /// The log has this fault behind the events that were judged, which is never want of memory.
+    Log(LogFault),
     /// The log has more than `limit` bytes, and nothing in these ended the run.
     LogTooLong { limit: u64 },
     /// The file could not be opened, and the files' count of faults rose.
@@ -45,6 +51,28 @@ impl From<SpecFault> for End {
         match fault {
             SpecFault::NoMemory => End::NoMemory,
             _ => End::Spec(fault),
+        }
+    }
+}
+
+impl From<NameFault> for End {
+    ghost from_gives = { λ fault end. end ≡ end_of_names fault };
+
+    fn from(fault: NameFault) -> End {
+        match fault {
+            NameFault::NoMemory => End::NoMemory,
+            _ => End::Names(fault),
+        }
+    }
+}
+
+impl From<LogFault> for End {
+    ghost from_gives = { λ fault end. end ≡ end_of_log fault };
+
+    fn from(fault: LogFault) -> End {
+        match fault {
+            LogFault::NoMemory => End::NoMemory,
+            _ => End::Log(fault),
         }
     }
 }
@@ -72,6 +100,8 @@ impl End {
             End::Usage => 2,
             End::SpecTooLong => 3,
             End::Spec(_) => 3,
+            End::Names(_) => 3,
+            End::Log(_) => 4,
             End::LogTooLong { limit: _ } => 4,
             End::OpenFault { which: _ } => 6,
             End::ReadFault { which: _ } => 6,

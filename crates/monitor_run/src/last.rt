@@ -3,7 +3,7 @@ ghost use Rattle.std.specs.Prelude.{◌≡◌, ◌≤◌, ◌++◌, OnOk, OnErr,
 ghost use Rattle.mon_base.specs.Causes.{Rose, HasCause};
 ghost use Rattle.mon_base.specs.Told.{AppendsFront};
 ghost use Rattle.std.specs.Io.KnownBytes.{Appends};
-ghost use Rattle.monitor_run.specs.Answer.{fault_line, file_text, last_line};
+ghost use Rattle.monitor_run.specs.Answer.{at_node, at_record, fault_line, file_text, in_item, last_line, log_line, name_line};
 ghost use Rattle.monitor_run.specs.Last.{Finishes};
 ghost use Rattle.monitor_run.specs.Passing.{Passes};
 
@@ -11,8 +11,10 @@ use crate::end::{End, Which};
 use crate::log::Reached;
 use crate::output::Output;
 use itoa::Buffer;
+use log_reader::LogFault;
 use mon_base::{Failed, Sink};
 use qtl_syntax::SpecFault;
+use wellformed::NameFault;
 
 /// Holds back the line that tells how many events and violations there were.
 fn put_counts<W: Sink>(
@@ -100,6 +102,174 @@ fn put_spec_fault<W: Sink>(output: &mut Output, out: &mut W, fault: SpecFault) -
     }
 }
 
+/// Holds back the line of a fault in an item.
+fn put_in_item<W: Sink>(
+    output: &mut Output,
+    out: &mut W,
+    head: &[u8],
+    item: u32,
+) -> Result<(), Failed>
+    ensures ok { OnOk result (Passes (W.written out.old) (W.written out.new) output.old output.new (in_item head.now item)) }
+    ensures err { OnErr result (AppendsFront (W.written out.old) (W.written out.new) (output.old ++ in_item head.now item)) }
+    ensures cause { HasCause (W.faults out.old) (W.faults out.new) result }
+{
+    let mut buffer = Buffer::new();
+    let number = buffer.format(item).as_bytes();
+    let parts = [head, b" in item ".as_slice(), number, b"\n"];
+    output.put_parts(out, &parts)
+}
+
+/// Holds back the line of a fault at a node of an item.
+fn put_at_node<W: Sink>(
+    output: &mut Output,
+    out: &mut W,
+    head: &[u8],
+    item: u32,
+    node: u32,
+) -> Result<(), Failed>
+    ensures ok { OnOk result (Passes (W.written out.old) (W.written out.new) output.old output.new (at_node head.now item node)) }
+    ensures err { OnErr result (AppendsFront (W.written out.old) (W.written out.new) (output.old ++ at_node head.now item node)) }
+    ensures cause { HasCause (W.faults out.old) (W.faults out.new) result }
+{
+    let mut first = Buffer::new();
+    let mut second = Buffer::new();
+    let item = first.format(item).as_bytes();
+    let node = second.format(node).as_bytes();
+    let parts = [
+        head,
+        b" in item ".as_slice(),
+        item,
+        b" at node ",
+        node,
+        b"\n",
+    ];
+    output.put_parts(out, &parts)
+}
+
+/// Holds back the line of a fault in a record.
+fn put_at_record<W: Sink>(
+    output: &mut Output,
+    out: &mut W,
+    head: &[u8],
+    number: u64,
+) -> Result<(), Failed>
+    ensures ok { OnOk result (Passes (W.written out.old) (W.written out.new) output.old output.new (at_record head.now number)) }
+    ensures err { OnErr result (AppendsFront (W.written out.old) (W.written out.new) (output.old ++ at_record head.now number)) }
+    ensures cause { HasCause (W.faults out.old) (W.faults out.new) result }
+{
+    let mut buffer = Buffer::new();
+    let number = buffer.format(number).as_bytes();
+    let parts = [head, b" at record ".as_slice(), number, b"\n"];
+    output.put_parts(out, &parts)
+}
+
+/// Holds back the line of a time that falls.
+fn put_time_back<W: Sink>(
+    output: &mut Output,
+    out: &mut W,
+    number: u64,
+    before: u64,
+    now: u64,
+) -> Result<(), Failed>
+    ensures ok { OnOk result (Passes (W.written out.old) (W.written out.new) output.old output.new (log_line (LogFault.TimeBack number before now))) }
+    ensures err { OnErr result (AppendsFront (W.written out.old) (W.written out.new) (output.old ++ log_line (LogFault.TimeBack number before now))) }
+    ensures cause { HasCause (W.faults out.old) (W.faults out.new) result }
+{
+    let mut first = Buffer::new();
+    let mut second = Buffer::new();
+    let mut third = Buffer::new();
+    let before = first.format(before).as_bytes();
+    let now = second.format(now).as_bytes();
+    let number = third.format(number).as_bytes();
+    let parts = [
+        b"stopped: time falls from ".as_slice(),
+        before,
+        b" to ",
+        now,
+        b" at record ",
+        number,
+        b"\n",
+    ];
+    output.put_parts(out, &parts)
+}
+
+/// Holds back the line that tells why a specification is refused by its names, and where.
+fn put_name_fault<W: Sink>(output: &mut Output, out: &mut W, fault: NameFault) -> Result<(), Failed>
+    ensures ok { OnOk result (Passes (W.written out.old) (W.written out.new) output.old output.new (name_line fault)) }
+    ensures err { OnErr result (AppendsFront (W.written out.old) (W.written out.new) (output.old ++ name_line fault)) }
+    ensures cause { HasCause (W.faults out.old) (W.faults out.new) result }
+{
+    match fault {
+        NameFault::DuplicateName { item } => {
+            put_in_item(output, out, b"stopped: duplicate name", item)
+        }
+        NameFault::LateMacro { item, node } => {
+            put_at_node(output, out, b"stopped: late macro", item, node)
+        }
+        NameFault::MacroArity { item, node } => put_at_node(
+            output,
+            out,
+            b"stopped: wrong number of macro terms",
+            item,
+            node,
+        ),
+        NameFault::ArityClash { item, node } => {
+            put_at_node(output, out, b"stopped: clash of arities", item, node)
+        }
+        NameFault::FreeVariable { item, node } => {
+            put_at_node(output, out, b"stopped: free variable", item, node)
+        }
+        NameFault::NoProperty => output.put(out, b"stopped: no property\n"),
+        NameFault::TooManySubformulas { found } => put_numbered(
+            output,
+            out,
+            b"stopped: too many subformulas, ",
+            found as u64,
+            b"\n",
+        ),
+        NameFault::TooManyVariables { found } => put_numbered(
+            output,
+            out,
+            b"stopped: too many variables, ",
+            found as u64,
+            b"\n",
+        ),
+        NameFault::NoMemory => output.put(out, b""),
+    }
+}
+
+/// Holds back the line that tells why a log has no further event, and in which record.
+fn put_log_fault<W: Sink>(output: &mut Output, out: &mut W, fault: LogFault) -> Result<(), Failed>
+    ensures ok { OnOk result (Passes (W.written out.old) (W.written out.new) output.old output.new (log_line fault)) }
+    ensures err { OnErr result (AppendsFront (W.written out.old) (W.written out.new) (output.old ++ log_line fault)) }
+    ensures cause { HasCause (W.faults out.old) (W.faults out.new) result }
+{
+    match fault {
+        LogFault::QuoteOpen { number } => {
+            put_at_record(output, out, b"stopped: quote not closed", number)
+        }
+        LogFault::AfterQuote { number } => {
+            put_at_record(output, out, b"stopped: text after quote", number)
+        }
+        LogFault::RecordTooLong { number } => {
+            put_at_record(output, out, b"stopped: record too long", number)
+        }
+        LogFault::TooManyFields { number } => {
+            put_at_record(output, out, b"stopped: too many fields", number)
+        }
+        LogFault::EmptyName { number } => {
+            put_at_record(output, out, b"stopped: empty name", number)
+        }
+        LogFault::BadTime { number } => put_at_record(output, out, b"stopped: bad time", number),
+        LogFault::TimeBack {
+            number,
+            before,
+            now,
+        } => put_time_back(output, out, number, before, now),
+        LogFault::NoMemory => output.put(out, b""),
+    }
+}
+
 /// How a last line calls the file.
 fn name_of(which: Which) -> &'static [u8]
     ensures { result.now ≡ file_text which }
@@ -136,6 +306,8 @@ fn put_last<W: Sink>(output: &mut Output, out: &mut W, end: End, events: u64) ->
         End::Usage => output.put(out, b"stopped: usage: dejavu SPEC LOG\n"),
         End::SpecTooLong => output.put(out, b"stopped: specification longer than 1048576 bytes\n"),
         End::Spec(fault) => put_spec_fault(output, out, fault),
+        End::Names(fault) => put_name_fault(output, out, fault),
+        End::Log(fault) => put_log_fault(output, out, fault),
         End::NotBuilt => output.put(out, b"stopped: not built\n"),
         End::LogTooLong { limit } => {
             put_numbered(
@@ -171,7 +343,11 @@ pub fn finish<W: Sink>(output: &mut Output, out: &mut W, reached: Reached) -> En
 {
     match reached.end {
         End::WriteFault => End::WriteFault,
-        End::NoMemory => End::NoMemory,
+        End::NoMemory => {
+            // Nothing that is known already is lost. Whether this is written changes no answer.
+            let _sent = output.flush(out);
+            End::NoMemory
+        }
         _ => match send_last(output, out, reached.end, reached.events) {
             Ok(()) => reached.end,
             Err(_) => End::WriteFault,

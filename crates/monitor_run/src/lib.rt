@@ -2,21 +2,14 @@
 #![tactic(auto)]
 
 mod end;
-mod fetch;
-mod fields;
 mod judge;
 mod last;
-mod line_buffer;
 mod log;
-mod node;
 mod output;
 mod piece;
-mod property;
-mod scan;
 mod session;
+mod specification;
 mod top;
-mod turn;
-mod watch;
 
 pub use end::{End, Outcome, Which};
 pub use top::run;

@@ -1,80 +1,50 @@
-//! The lines of a piece of the log, judged one by one.
-ghost use Rattle.std.specs.Prelude.{◌≡◌, ◌+◌, ◌-◌, ◌^◌, ◌<◌, ◌≤◌, ℕ, List, take, drop, length, Bool, true, Option, OnOk, IfOk, IfErr, count_by};
+//! The records of the bytes that were fed to the reader, judged one by one.
+ghost use Rattle.std.specs.Prelude.{◌≡◌, ℕ, ◌*◌, ◌≤◌, Bool, List, Option, OnOk, IfErr};
 ghost use Rattle.mon_base.specs.Causes.{Rose};
 ghost use Rattle.qtl_syntax.specs.Tree as tree;
-ghost use Rattle.monitor_run.specs.Lines.{is_comma, may_become_plain};
-ghost use Rattle.monitor_run.specs.Pieces.{PieceJudged, IsLeft, PieceStops};
-ghost use Rattle.monitor_run.specs.Watching.{Watching};
+ghost use Rattle.monitor_run.specs.Answer.{HasFaultCause};
+ghost use Rattle.monitor_run.specs.Files.{IsReadingEnd};
+ghost use Rattle.monitor_run.specs.Reading.{LogReached};
+ghost use Rattle.monitor_run.specs.Standing.{IsFed, IsFedWithin, Walked, WalkedAll};
 
-use crate::fields::bytes_from;
-use crate::judge::{Judge, judge_line};
+use crate::end::End;
+use crate::judge::{Judge, judge_event};
 use crate::output::Output;
-use crate::scan::{Found, scan};
+use log_reader::LogReader;
 use mon_base::Sink;
 
-/// The bytes at the end of a piece that begin a line.
-#[derive(Clone, Copy, Debug, PartialEq, Eq)]
-pub struct Left {
-    pub length: usize,
-    pub commas: usize,
-}
-
-/// Why a piece was not judged to its end.
-#[derive(Clone, Copy, Debug, PartialEq, Eq)]
-pub enum PieceEnd {
-    /// A line isn't plain.
-    Odd,
-    /// A write failed.
-    Failed,
-}
-
-/// Judges the whole lines at the front of the bytes. Those before `seen` are known to begin a line, with so many commas.
-pub fn judge_piece<W: Sink>(
+/// Judges the events of the bytes that were fed to the reader.
+pub fn judge_fed<W: Sink>(
     judge: &mut Judge,
-    bytes: &[u8],
-    begun: Left,
+    reader: &mut LogReader,
     output: &mut Output,
     out: &mut W,
-) -> Result<Left, PieceEnd>
-    requires within { begun.length ≤ length bytes.now }
-    requires begun { may_become_plain (take begun.length bytes.now) ≡ true }
-    requires counted { begun.commas ≡ count_by is_comma (take begun.length bytes.now) }
-    requires room { judge.old.events + length bytes.now < 2 ^ 64 }
-    requires fewer { judge.old.violations ≤ judge.old.events }
-    ensures ok { IfOk result (λ left. (f : tree.Formula) (name : tree.Text) (sent : Option (List ℕ)) (lines : List tree.Text) (verdicts : List Bool) →
-        Watching f name sent (W.written out.old) lines verdicts judge.old output.old →
-        PieceJudged f name sent (W.written out.new) lines bytes.now (drop (length bytes.now - left.length) bytes.now) judge.new output.new) }
-    ensures left { IfOk result (λ left. IsLeft bytes.now left) }
-    ensures err { IfErr result (λ end. (f : tree.Formula) (name : tree.Text) (sent : Option (List ℕ)) (lines : List tree.Text) (verdicts : List Bool) →
-        Watching f name sent (W.written out.old) lines verdicts judge.old output.old →
-        PieceStops f name sent (W.written out.new) lines bytes.now judge.new output.new end) }
-    ensures events { judge.new.events ≤ judge.old.events + length bytes.now }
-    ensures events_left { IfOk result (λ left. judge.new.events + left.length ≤ judge.old.events + length bytes.now) }
-    ensures still_fewer { judge.new.violations ≤ judge.new.events }
-    ensures later { W.faults out.old ≤ W.faults out.new }
-    ensures failed { IfErr result (λ end. end ≡ PieceEnd.Failed → Rose (W.faults out.old) (W.faults out.new)) }
+) -> Result<(), End>
+    requires fed { IsFedWithin 281474976710656 reader.old }
+    requires events { judge.old.events ≡ reader.old.given }
+    requires fewer { judge.old.violations ≤ 4096 * judge.old.events }
+    ensures ok { OnOk result ((items : List tree.Item) (limit : ℕ) (all : tree.Text) (left : Option tree.Text) (sent : Option tree.Text) (given : tree.Text) (ended : Bool) →
+        Walked items limit all left sent (W.written out.old) given ended judge.old reader.old output.old →
+        WalkedAll items limit all left sent (W.written out.new) given ended judge.new reader.new output.new) }
+    ensures err { IfErr result (λ end. (items : List tree.Item) (limit : ℕ) (all : tree.Text) (left : Option tree.Text) (sent : Option tree.Text) (given : tree.Text) (ended : Bool) →
+        Walked items limit all left sent (W.written out.old) given ended judge.old reader.old output.old →
+        LogReached items limit all left sent (W.written out.new) output.new end judge.new.events) }
+    ensures fed { OnOk result ((count : ℕ) → IsFed count reader.old → IsFed count reader.new) }
+    ensures on { OnOk result (reader.new.ended ≡ reader.old.ended) }
+    ensures events { OnOk result (judge.new.events ≡ reader.new.given) }
+    ensures still_fewer { OnOk result (judge.new.violations ≤ 4096 * judge.new.events) }
+    ensures cause { IfErr result (λ end. HasFaultCause ⊥ (Rose (W.faults out.old) (W.faults out.new)) end) }
+    ensures reading { IfErr result (λ end. IsReadingEnd end) }
+    ensures out_later { W.faults out.old ≤ W.faults out.new }
 {
-    let mut rest = bytes;
-    let mut seen = begun.length;
-    let mut commas = begun.commas;
-    'lines: loop {
-        match scan(rest, seen, commas) {
-            Found::Line { length } => {
-                match judge_line(judge, &rest[..length], output, out) {
-                    Ok(()) => {}
-                    Err(_) => return Err(PieceEnd::Failed),
-                }
-                rest = bytes_from(rest, length + 1);
-                seen = 0;
-                commas = 0;
-            }
-            Found::More { commas } => {
-                return Ok(Left {
-                    length: rest.len(),
-                    commas,
-                });
-            }
-            Found::Odd => return Err(PieceEnd::Odd),
+    'records: loop {
+        match reader.next() {
+            Ok(Some(event)) => match judge_event(judge, &event, output, out) {
+                Ok(()) => {}
+                Err(_) => return Err(End::WriteFault),
+            },
+            Ok(None) => return Ok(()),
+            Err(fault) => return Err(fault.into()),
         }
     }
 }

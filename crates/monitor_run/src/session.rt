@@ -1,19 +1,20 @@
 //! A run up to its last line.
-ghost use Rattle.std.specs.Prelude.{◌≡◌, ◌≢◌, ◌↔◌, ◌≤◌, [], ◌∷◌, map, length, IfSome, IfNone, string_bytes};
+ghost use Rattle.std.specs.Prelude.{◌≡◌, ◌≢◌, ◌↔◌, ◌≤◌, List, [], ◌∷◌, map, length, vec_len, IfOk, IfSome, IfNone, string_bytes};
 ghost use Rattle.mon_base.specs.Causes.{Rose};
 ghost use Rattle.mon_base.specs.Told.{text_of};
 ghost use Rattle.qtl_syntax.specs.Tree as tree;
 ghost use Rattle.monitor_run.specs.Answer.{HasFaultCause};
+ghost use Rattle.monitor_run.specs.Files.{Hurts, HurtsOne, IsLastOf, IsLogEnd, Opens, OpensOne};
 ghost use Rattle.monitor_run.specs.Reading.{LogTold, Reaches};
-ghost use Rattle.monitor_run.specs.Watching.{StandsAt};
+ghost use Rattle.monitor_run.specs.Standing.{StandsAt};
 
 use crate::MAX_LOG;
 use crate::end::{End, Which};
 use crate::judge::Judge;
-use crate::line_buffer::LineBuffer;
 use crate::log::{Reached, read_log};
 use crate::output::Output;
-use crate::property::read_property;
+use crate::specification::{read_room, read_specification};
+use log_reader::LogReader;
 use mon_base::{Files, OpenEnd, Sink};
 use std::alloc::Global;
 
@@ -36,22 +37,36 @@ fn run_log<F: Files, W: Sink>(
     requires events { judge.events ≡ 0 }
     requires violations { judge.violations ≡ 0 }
     requires nothing { output.old ≡ [] }
-    ensures told { (f : tree.Formula) (title : tree.Text) → StandsAt f title [] [] judge →
-        IfSome (F.texts files.old) (λ texts. LogTold title f (text_of texts name.now) (W.written out.old) (W.written out.new) output.new result.end result.events) }
+    ensures told { (items : List tree.Item) → StandsAt items [] [] judge →
+        IfSome (F.texts files.old) (λ texts. LogTold items (text_of texts name.now) (λ rest. IsLastOf (F.unread files.old) (F.unread files.new) rest) (W.written out.old) (W.written out.new) output.new result.end result.events) }
+    ensures opened { OpensOne name.now result.end (F.opened files.old) (F.opened files.new) }
+    ensures hurt { HurtsOne result.end (F.hurt files.old) (F.hurt files.new) }
     ensures cause { HasFaultCause (Rose (F.faults files.old) (F.faults files.new)) (Rose (W.faults out.old) (W.faults out.new)) result.end }
     ensures texts { F.texts files.new ≡ F.texts files.old }
     ensures lent { F.lent files.new ≡ F.lent files.old }
     ensures later { F.faults files.old ≤ F.faults files.new }
     ensures out_later { W.faults out.old ≤ W.faults out.new }
-    ensures not_usage { result.end ≢ End.Usage }
+    ensures log_end { IsLogEnd result.end }
 {
-    let buffer = match LineBuffer::open(alloc) {
-        Ok(buffer) => buffer,
+    let mut room = match read_room(alloc) {
+        Ok(room) => room,
+        Err(_) => return early(End::NoMemory),
+    };
+    let reader = match LogReader::open(alloc, false) {
+        Ok(reader) => reader,
         Err(_) => return early(End::NoMemory),
     };
     match files.open(name) {
         Ok(mut source) => {
-            let reached = read_log(judge, buffer, &mut source, output, out, MAX_LOG);
+            let reached = read_log(
+                judge,
+                reader,
+                room.as_mut_slice(),
+                &mut source,
+                output,
+                out,
+                MAX_LOG,
+            );
             files.close(source);
             reached
         }
@@ -70,14 +85,16 @@ fn two_files<F: Files, W: Sink>(
     out: &mut W,
 ) -> Reached
     requires nothing { output.old ≡ [] }
-    ensures bytes { IfSome (F.texts files.old) (λ texts. Reaches texts (spec.now ∷ log.now ∷ []) (Rose (F.faults files.old) (F.faults files.new)) (W.written out.old) (W.written out.new) output.new result.end result.events) }
+    ensures bytes { IfSome (F.texts files.old) (λ texts. Reaches texts (spec.now ∷ log.now ∷ []) (λ rest. IsLastOf (F.unread files.old) (F.unread files.new) rest) (Rose (F.faults files.old) (F.faults files.new)) (W.written out.old) (W.written out.new) output.new result.end result.events) }
+    ensures opened { Opens (spec.now ∷ log.now ∷ []) result.end (F.opened files.old) (F.opened files.new) }
+    ensures hurt { Hurts result.end (F.hurt files.old) (F.hurt files.new) }
     ensures cause { HasFaultCause (Rose (F.faults files.old) (F.faults files.new)) (Rose (W.faults out.old) (W.faults out.new)) result.end }
     ensures lent { F.lent files.new ≡ F.lent files.old }
     ensures later { F.faults files.old ≤ F.faults files.new }
     ensures out_later { W.faults out.old ≤ W.faults out.new }
     ensures not_usage { result.end ≢ End.Usage }
 {
-    match read_property(alloc, spec, files) {
+    match read_specification(alloc, spec, files) {
         Ok(judge) => run_log(alloc, judge, log, files, output, out),
         Err(end) => early(end),
     }
@@ -103,7 +120,9 @@ pub fn session<F: Files, W: Sink>(
     out: &mut W,
 ) -> Reached
     requires nothing { output.old ≡ [] }
-    ensures bytes { IfSome (F.texts files.old) (λ texts. Reaches texts (map string_bytes words.now) (Rose (F.faults files.old) (F.faults files.new)) (W.written out.old) (W.written out.new) output.new result.end result.events) }
+    ensures bytes { IfSome (F.texts files.old) (λ texts. Reaches texts (map string_bytes words.now) (λ rest. IsLastOf (F.unread files.old) (F.unread files.new) rest) (Rose (F.faults files.old) (F.faults files.new)) (W.written out.old) (W.written out.new) output.new result.end result.events) }
+    ensures opened { Opens (map string_bytes words.now) result.end (F.opened files.old) (F.opened files.new) }
+    ensures hurt { Hurts result.end (F.hurt files.old) (F.hurt files.new) }
     ensures usage { result.end ≡ End.Usage ↔ (length words.now ≢ 2) }
     ensures cause { HasFaultCause (Rose (F.faults files.old) (F.faults files.new)) (Rose (W.faults out.old) (W.faults out.new)) result.end }
     ensures lent { F.lent files.new ≡ F.lent files.old }

@@ -1,12 +1,12 @@
 //! Runs over memory, and one of the reading of a log with a small limit.
-ghost use Rattle.std.specs.Prelude.{◌≡◌, ◌^◌, ◌<◌, ◌≤◌, All, IfOk};
+ghost use Rattle.std.specs.Prelude.{◌≡◌, ◌^◌, ◌≤◌, ◌<◌, All, IfOk};
 
 use crate::end::{End, Outcome};
-use crate::line_buffer::LineBuffer;
 use crate::log::read_log;
 use crate::output::Output;
-use crate::property::judge_in;
 use crate::run;
+use crate::specification::{judge_in, read_room};
+use log_reader::LogReader;
 use mon_base::{MemFile, MemFiles, MemSink, MemSource, NoMemory, Steps};
 use std::alloc::Global;
 use std::marker::Brand;
@@ -92,111 +92,231 @@ fn run_over(
 }
 
 /// A specification and a log, the report, and the status.
-#[derive(Drop)]
-struct Case {
-    spec: &'static str,
-    log: &'static str,
-    report: &'static str,
-    status: u8,
+type Case = (&'static str, &'static str, &'static str, u8);
+
+/// Whether a run gives this report and status, where the files give their bytes in pieces of this size.
+fn gives(alloc: Global, case: &Case, size: usize) -> Result<bool, NoMemory>
+    requires { 1 ≤ size }
+{
+    let spec = file_of(alloc, "s", case.0, size, None)?;
+    let log = file_of(alloc, "l", case.1, size, None)?;
+    let mut files = files_of(alloc, spec, log)?;
+    let mut out = MemSink::open(alloc, 1000)?;
+    let outcome = run_over(alloc, &["s", "l"], &mut files, &mut out)?;
+    Ok(out.bytes() == case.2.as_bytes() && outcome.status == case.3)
 }
 
-fn row(spec: &'static str, log: &'static str, report: &'static str, status: u8) -> Case {
-    Case {
-        spec,
-        log,
-        report,
-        status,
+/// Whether it does in pieces of each of three sizes.
+fn always_gives(alloc: Global, case: &Case) -> Result<bool, NoMemory> {
+    for size in [1usize, 7, 1000] {
+        if !gives(alloc, case, size)? {
+            return Ok(false);
+        }
     }
+    Ok(true)
 }
+
+const FORMS: &[Case] = &[
+    (
+        SINCE,
+        "go,a\nstop,a\n",
+        "violation 2 r\nevents 2 violations 1\n",
+        1,
+    ),
+    (SINCE, "", "events 0 violations 0\n", 0),
+    (SINCE, "go,a\ngo,b\n", "events 2 violations 0\n", 0),
+    (
+        SINCE,
+        "go,b\ngo,a\nstop,b\n",
+        "violation 1 r\nevents 3 violations 1\n",
+        1,
+    ),
+    (
+        SINCE,
+        "\u{feff} go , a \r\n\nstop,\"a\"",
+        "violation 2 r\nevents 2 violations 1\n",
+        1,
+    ),
+    (
+        SINCE,
+        "go,\"a\"\"b\"\n",
+        "violation 1 r\nevents 1 violations 1\n",
+        1,
+    ),
+    (SINCE, "go,a\nidle", "events 2 violations 0\n", 0),
+    (SINCE, "\u{feff}", "events 0 violations 0\n", 0),
+];
+
+const RECORD_FAULTS: &[Case] = &[
+    (
+        SINCE,
+        "go,a\nstop,\"a",
+        "stopped: quote not closed at record 2\n",
+        4,
+    ),
+    (
+        SINCE,
+        "stop,a\n\ngo,\"a\"b\ngo,a\n",
+        "violation 1 r\nstopped: text after quote at record 2\n",
+        4,
+    ),
+    (SINCE, "\n,x\n", "stopped: empty name at record 1\n", 4),
+];
+
+const PROPERTIES: &[Case] = &[
+    (
+        "pred on(x) = [go(x),stop(x)) prop a : on(\"1\") prop b : ! on(\"2\")",
+        "go,1\ngo,2\n",
+        "violation 2 b\nevents 2 violations 1\n",
+        1,
+    ),
+    (
+        "prop n : H (go(1) | P stop(1))",
+        "go,1\nidle\n",
+        "violation 2 n\nevents 2 violations 1\n",
+        1,
+    ),
+    (
+        "prop r : @ true",
+        "a\nb\n",
+        "violation 1 r\nevents 2 violations 1\n",
+        1,
+    ),
+    (
+        "prop r : P go prop s : go -> false prop t : go <-> stop",
+        "go\nstop\nidle\n",
+        "violation 1 s\nviolation 1 t\nviolation 2 t\nevents 3 violations 3\n",
+        1,
+    ),
+    (
+        "pred m() = a prop r : b",
+        "go\n",
+        "violation 1 r\nevents 1 violations 1\n",
+        1,
+    ),
+];
+
+const NOT_BUILT: &[Case] = &[
+    (
+        "prop n : exists x . go(x)",
+        "go\n",
+        "stopped: not built\n",
+        8,
+    ),
+    ("prop r : P[<=7] go", "go\n", "stopped: not built\n", 8),
+    (
+        "pred m() = forall x . a(x) prop r : go & m",
+        "go\n",
+        "stopped: not built\n",
+        8,
+    ),
+    (
+        "pred m() = P[>7] a prop r : go",
+        "go\n",
+        "events 1 violations 0\n",
+        0,
+    ),
+];
+
+const NAME_FAULTS: &[Case] = &[
+    ("", "go\n", "stopped: no property\n", 3),
+    (
+        "prop f : p(x)",
+        "go\n",
+        "stopped: free variable in item 0 at node 0\n",
+        3,
+    ),
+    (
+        "prop a : m(1) pred m(x) = p(x)",
+        "go\n",
+        "stopped: late macro in item 0 at node 0\n",
+        3,
+    ),
+    (
+        "pred m(x) = p(x) prop a : ! m",
+        "go\n",
+        "stopped: wrong number of macro terms in item 1 at node 1\n",
+        3,
+    ),
+    (
+        "prop a : p(1) & p",
+        "go\n",
+        "stopped: clash of arities in item 0 at node 2\n",
+        3,
+    ),
+    (
+        "prop a : p prop b : q prop a : r",
+        "go\n",
+        "stopped: duplicate name in item 2\n",
+        3,
+    ),
+    (
+        "pred a(x) = p(x)&p(x) pred b(x) = a(x)&a(x) pred c(x) = b(x)&b(x) pred d(x) = c(x)&c(x) pred e(x) = d(x)&d(x) \
+         pred f(x) = e(x)&e(x) pred g(x) = f(x)&f(x) pred h(x) = g(x)&g(x) pred i(x) = h(x)&h(x) pred j(x) = i(x)&i(x) \
+         pred k(x) = j(x)&j(x) prop q : forall x . k(x)",
+        "go\n",
+        "stopped: too many subformulas, 6143\n",
+        3,
+    ),
+];
+
+const SPEC_FAULTS: &[Case] = &[
+    (
+        "prop p : forall x . p(x",
+        "go\n",
+        "stopped: syntax at token 9\n",
+        3,
+    ),
+    (
+        "prop prop r : a ? b",
+        "go\n",
+        "stopped: no token at byte 16\n",
+        3,
+    ),
+    (
+        "prop r : P[<=1048575] go)",
+        "go\n",
+        "stopped: bound too large at token 6\n",
+        3,
+    ),
+    (
+        "prop r : p(\"a,b\") S q",
+        "q\np,a,b\np,\"a,b\"\n",
+        "violation 2 r\nviolation 3 r\nevents 3 violations 2\n",
+        1,
+    ),
+    (
+        "prop r : p(\"a,b\")",
+        "p,\"a,b\"\n",
+        "events 1 violations 0\n",
+        0,
+    ),
+    (
+        "prop r : p(\"\",7)",
+        "p,,7\np,,07\n",
+        "violation 2 r\nevents 2 violations 1\n",
+        1,
+    ),
+    (
+        "prop r : a S (b S c)",
+        "c\nb\na\nb\n",
+        "violation 4 r\nevents 4 violations 1\n",
+        1,
+    ),
+];
 
 #[test]
 fn reports_in_pieces_of_any_size(rt: HostRuntime) -> Result<(), Fail> {
-    let alloc = rt.alloc();
-    let cases = [
-        row(
-            SINCE,
-            "go,a\nstop,a\n",
-            "violation 2 r\nevents 2 violations 1\n",
-            1,
-        ),
-        row(SINCE, "", "events 0 violations 0\n", 0),
-        row(SINCE, "go,a\ngo,b\n", "events 2 violations 0\n", 0),
-        row(
-            SINCE,
-            "go,b\ngo,a\nstop,b\n",
-            "violation 1 r\nevents 3 violations 1\n",
-            1,
-        ),
-        row(SINCE, "go,a\ngo,\"a\"\n", "stopped: not built\n", 8),
-        row(
-            SINCE,
-            "stop,a\n\ngo,a\n",
-            "violation 1 r\nstopped: not built\n",
-            8,
-        ),
-        row(SINCE, "go,a\nstop,a", "stopped: not built\n", 8),
-        row(SINCE, "go a\n", "stopped: not built\n", 8),
-        row("prop r : P go", "go\n", "stopped: not built\n", 8),
-        row("prop r : go prop s : go", "go\n", "stopped: not built\n", 8),
-        row(
-            "prop r : exists x . p(x)",
-            "go\n",
-            "stopped: not built\n",
-            8,
-        ),
-        row("pred m() = a prop r : b", "go\n", "stopped: not built\n", 8),
-        row(
-            "prop r : P[<=1048574] go",
-            "go\n",
-            "stopped: not built\n",
-            8,
-        ),
-        row(
-            "prop p : forall x . p(x",
-            "go\n",
-            "stopped: syntax at token 9\n",
-            3,
-        ),
-        row(
-            "prop prop r : a ? b",
-            "go\n",
-            "stopped: no token at byte 16\n",
-            3,
-        ),
-        row(
-            "prop r : P[<=1048575] go)",
-            "go\n",
-            "stopped: bound too large at token 6\n",
-            3,
-        ),
-        row(
-            "prop r : p(\"a,b\")",
-            "p,a,b\n",
-            "violation 1 r\nevents 1 violations 1\n",
-            1,
-        ),
-        row(
-            "prop r : p(\"\",7)",
-            "p,,7\np,,07\n",
-            "violation 2 r\nevents 2 violations 1\n",
-            1,
-        ),
-        row(
-            "prop r : a S (b S c)",
-            "c\nb\na\nb\n",
-            "violation 4 r\nevents 4 violations 1\n",
-            1,
-        ),
-    ];
-    for case in &cases {
-        for size in [1usize, 7, 1000] {
-            let spec = file_of(alloc, "s", case.spec, size, None)?;
-            let log = file_of(alloc, "l", case.log, size, None)?;
-            let mut files = files_of(alloc, spec, log)?;
-            let mut out = MemSink::open(alloc, 1000)?;
-            let outcome = run_over(alloc, &["s", "l"], &mut files, &mut out)?;
-            assert_eq!(rt; out.bytes(), case.report.as_bytes());
-            assert_eq!(rt; outcome.status, case.status);
+    for cases in [
+        FORMS,
+        RECORD_FAULTS,
+        PROPERTIES,
+        NOT_BUILT,
+        NAME_FAULTS,
+        SPEC_FAULTS,
+    ] {
+        for case in cases {
+            assert!(rt; always_gives(rt.alloc(), case)?, "{}, {}", case.0, case.1);
         }
     }
     Ok(())
@@ -290,15 +410,17 @@ fn large_file(alloc: Global, name: &str, bytes: Vec<u8>, size: usize) -> Result<
 fn limits_are_met_and_not_passed(rt: HostRuntime) -> Result<(), Fail> {
     let alloc = rt.alloc();
     let kept = "violation 1 r\nevents 1 violations 1\n";
-    let stopped = "stopped: not built\n";
-    let cases: [(&[u8], u8, usize, &str); 7] = [
+    let long = "stopped: record too long at record 1\n";
+    let many = "stopped: too many fields at record 1\n";
+    let cases: [(&[u8], u8, usize, &str); 8] = [
         (b"a", b'a', 65_535, kept),
-        (b"a", b'a', 65_536, stopped),
-        (b"a", b'a', 300_000, stopped),
+        (b"a", b'a', 65_536, long),
+        (b"a", b'a', 300_000, long),
         (b"a", b',', 63, kept),
-        (b"a", b',', 64, stopped),
-        (b",", b'a', 1, stopped),
+        (b"a", b',', 64, many),
+        (b"a", b',', 66_000, many),
         (b"a", b'~', 1, kept),
+        (b"a,\"", b'\n', 66_000, long),
     ];
     for (head, byte, count, report) in cases {
         let log = filled(alloc, head, byte, count, b"\n")?;
@@ -320,7 +442,7 @@ fn a_specification_keeps_its_limits(rt: HostRuntime) -> Result<(), Fail> {
     let cases: [(&[u8], u8, usize, &[u8], &str, u8); 6] = [
         (b"prop r : z()", b' ', 1_048_564, b"", kept, 1),
         (b"prop r : z()", b' ', 1_048_565, b"", too_long, 3),
-        (b"", b' ', 1_048_576, b"", "stopped: not built\n", 8),
+        (b"", b' ', 1_048_576, b"", "stopped: no property\n", 3),
         (b"", b' ', 1_048_577, b"", too_long, 3),
         (
             b"prop r : ",
@@ -356,7 +478,7 @@ fn a_specification_keeps_its_limits(rt: HostRuntime) -> Result<(), Fail> {
 
 /// How a log of two records and twelve bytes ends that may have at most `limit` bytes.
 fn end_of_log(alloc: Global, limit: u64) -> Result<End, Fail>
-    requires { limit < 2 ^ 63 }
+    requires { limit ≤ 2 ^ 48 }
 {
     let Ok(judge) = judge_in(alloc, SINCE.as_bytes()) else {
         return Err(Fail::from("no judge"));
@@ -365,8 +487,17 @@ fn end_of_log(alloc: Global, limit: u64) -> Result<End, Fail>
     let mut source = MemSource::new(bytes, pieces_of(alloc, 3)?, Vec::new(alloc));
     let mut output = Output::open(alloc)?;
     let mut out = MemSink::open(alloc, 100)?;
-    let buffer = LineBuffer::open(alloc)?;
-    let reached = read_log(judge, buffer, &mut source, &mut output, &mut out, limit);
+    let mut room = read_room(alloc)?;
+    let reader = LogReader::open(alloc, false)?;
+    let reached = read_log(
+        judge,
+        reader,
+        room.as_mut_slice(),
+        &mut source,
+        &mut output,
+        &mut out,
+        limit,
+    );
     Ok(reached.end)
 }
 

@@ -1,5 +1,8 @@
 use Rattle.monitor_run.proofs.last.put_last.Goals as goal
 
+pub returns-in-OpenFault-clause-ok : goal.returns-in-OpenFault-clause-ok
+returns-in-OpenFault-clause-ok g c = rw c.in-OpenFault.is c.put_file_fault.ensures.ok
+
 pub returns-in-OpenFault-clause-err : goal.returns-in-OpenFault-clause-err
 returns-in-OpenFault-clause-err g c = rw c.in-OpenFault.is c.put_file_fault.ensures.err
 

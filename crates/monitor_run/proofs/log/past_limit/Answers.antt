@@ -1,33 +1,28 @@
-use Rattle.std.proofs.Common.{◌∙◌, ap, arith}
-use Rattle.monitor_run.specs.Buffers.{held_of}
-use Rattle.monitor_run.specs.Lines.{may_become_plain}
-use Rattle.monitor_run.proofs.LogLemmas.{read_ended, read_failed, read_long, read_short}
-use Rattle.monitor_run.proofs.Turning.{walked_still, walked_sent, walk_cut}
+use Rattle.std.proofs.Common.{◌≡◌, ℕ, List, [], ◌<◌, ap, subst, take, length, arith}
+use Rattle.std.specs.Io.KnownBytes.{Consumes}
+use Rattle.std.proofs.lemmas.List.{length-take-le}
+use Rattle.monitor_run.proofs.Ends.{cause_more, rose_after}
+use Rattle.monitor_run.proofs.Walks.{read_long, read_reached, walked_same}
 use Rattle.monitor_run.proofs.log.past_limit.Goals as goal
 
-pub returns-in-Piece-clause-read : goal.returns-in-Piece-clause-read
-returns-in-Piece-clause-read g c f name left sent given w len =
-    let fetched = c.in-Piece.ensures.fetched in
-    let fills = fetched.2 in
-    let sent_on = walked_sent f name left _ sent _ _ given (held_of c.args.buffer.now) c.args.judge.now c.args.output.now c.fetch.new.output w fetched.0 fetched.1 in
-    read_long f name c.args.limit left _ _ sent _ given (held_of c.args.buffer.now) fills.piece c.args.judge.now c.fetch.new.output sent_on fills.taken len (omega (arith, fills.counted, c.in-Piece.ensures.bound.0)) c.requires.begun
+pub returns-in-Ok-eq0-clause-reached : goal.returns-in-Ok-eq0-clause-reached
+returns-in-Ok-eq0-clause-reached g c items all sent given a full =
+    let o = c.in-Ok-eq0.ensures in
+    let none : take c.in-Ok-eq0.field-0 c.fetch.new.room ≡ [] = ap (λ (n : ℕ). take n c.fetch.new.room) c.in-Ok-eq0.field-0-test in
+    c.end_log.ensures.reached items c.args.limit all _ sent given
+    (walked_same items c.args.limit all _ _ sent _ _ given c.args.judge c.args.reader c.args.output.now c.fetch.new.output a (subst (λ (l : List ℕ). Consumes (g.S.Source.left c.args.source.now) (g.S.Source.left c.fetch.new.source) l) none o.taken) o.sent.0 o.sent.1) (o.ended c.in-Ok-eq0.field-0-test)
 
-pub returns-in-Ended-clause-read : goal.returns-in-Ended-clause-read
-returns-in-Ended-clause-read g c f name left sent given w len =
-    let fetched = c.in-Ended.ensures.fetched in
-    let still = walked_still f name left _ _ sent _ _ given (held_of c.args.buffer.now) (held_of c.fetch.new.buffer) c.args.judge.now c.args.output.now c.fetch.new.output w fetched.2 fetched.0 fetched.1 fetched.4 in
-    let is = c.bytes.ensures in
-    read_ended f name c.args.limit left _ sent _ given (held_of c.fetch.new.buffer) c.args.judge.now c.fetch.new.output c.at_end.result.end c.at_end.result.events still fetched.3 (ap may_become_plain fetched.4 ∙ c.requires.begun) (omega (arith, len))
-    c.at_end.ensures.events (rw is at c.at_end.ensures.odd) (rw is at c.at_end.ensures.all_true) (rw is at c.at_end.ensures.violated)
+pub returns-in-Ok-eq0-clause-cause : goal.returns-in-Ok-eq0-clause-cause
+returns-in-Ok-eq0-clause-cause g c = cause_more _ _ _ c.end_log.result.end (rose_after _ _ _ c.fetch.ensures.out_later) c.end_log.ensures.cause
 
-pub returns-in-ReadFailed-clause-read : goal.returns-in-ReadFailed-clause-read
-returns-in-ReadFailed-clause-read g c f name left sent given w len =
-    let fetched = c.in-ReadFailed.ensures.fetched in
-    let still = walked_still f name left _ _ sent _ _ given (held_of c.args.buffer.now) (held_of c.fetch.new.buffer) c.args.judge.now c.args.output.now c.fetch.new.output w fetched.2 fetched.0 fetched.1 fetched.3 in
-    read_failed f name c.args.limit left _ sent _ given (held_of c.fetch.new.buffer) c.args.judge.now c.fetch.new.output still (omega (arith, len)) (ap may_become_plain fetched.3 ∙ c.requires.begun)
+pub returns-in-Ok-clause-reached : goal.returns-in-Ok-clause-reached
+returns-in-Ok-clause-reached g c items all sent given a full =
+    let o = c.in-Ok.ensures in
+    let piece = take c.in-Ok.field-0 c.fetch.new.room in
+    let n = length-take-le c.in-Ok.field-0 c.fetch.new.room o.within in
+    let some : 0 < length piece = let t = c.in-Ok.field-0-test in omega (arith, n, t) in
+    read_long items c.args.limit all _ (g.S.Source.left c.fetch.new.source) sent _ _ given piece c.args.judge c.args.reader c.args.output.now c.fetch.new.output a o.taken some o.sent.0 o.sent.1 full
 
-pub returns-in-WriteFailed-clause-read : goal.returns-in-WriteFailed-clause-read
-returns-in-WriteFailed-clause-read g c f name left sent given w len =
-    let fetched = c.in-WriteFailed.ensures.fetched in
-    let cut = walk_cut f name left _ _ sent _ _ given (held_of c.args.buffer.now) c.args.judge.now c.args.output.now 0 w fetched.1 fetched.0 in
-    read_short f name c.args.limit _ left _ sent _ cut (omega (arith, len))
+pub returns-in-Err-clause-reached : goal.returns-in-Err-clause-reached
+returns-in-Err-clause-reached g c items all sent given a full =
+    read_reached items c.args.limit all _ _ sent _ _ given c.args.judge c.args.reader c.args.output.now c.fetch.new.output c.in-Err.end a c.in-Err.ensures.failed

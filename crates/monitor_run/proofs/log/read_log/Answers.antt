@@ -1,67 +1,55 @@
-use Rattle.std.proofs.Common.{rules, [], ◌++◌, refl, arith, length-append}
-use Rattle.monitor_run.specs.Buffers.{held_of}
-use Rattle.monitor_run.proofs.LogLemmas.{walked_start, read_ended, read_odd, read_failed, read_short}
+use Rattle.std.proofs.Common.{◌∙◌, ◌++◌, [], sym, refl, ap, length-append, arith}
+use Rattle.monitor_run.proofs.Given.{is_fed_start}
+use Rattle.monitor_run.proofs.Walks.{walked_start}
 use Rattle.monitor_run.proofs.log.read_log.Goals as goal
 
 pub pieces-init : goal.pieces-init
 pieces-init g c = record {
-  walked = λ f name stands. ([], refl, walked_start f name _ _ (held_of c.args.buffer) c.args.judge c.args.output.now stands c.requires.empty c.requires.nothing);
-  sound = c.requires.sound;
-  begun = search rules;
-  counted = search rules;
-  events = search rules;
-  fewer = search rules;
+  walked = λ items all s is. ([], refl, walked_start items c.args.limit all _ _ c.args.judge c.args.reader c.args.output.now s is c.requires.fresh c.requires.stands c.requires.nothing);
+  room = c.requires.room;
+  closed = ap (λ r. r.ended) c.requires.fresh;
+  fed = is_fed_start c.args.reader c.requires.fresh c.requires.stands;
+  events = c.requires.events ∙ sym (ap (λ r. r.given) c.requires.fresh);
+  fewer = let n = c.requires.violations in omega (arith, n);
   within = omega arith;
   later = omega arith;
   out_later = omega arith;
 }
 
+pub take_turn-requires-clause-fed : goal.take_turn-requires-clause-fed
+take_turn-requires-clause-fed g c = (c.pieces.taken, c.pieces.invariant.fed, let n = c.pieces.invariant.within in let m = c.requires.small in omega (arith, n, m))
+
+pub returns-in-Ok-eq0-clause-reached : goal.returns-in-Ok-eq0-clause-reached
+returns-in-Ok-eq0-clause-reached g c items all s is =
+    let w = c.pieces.invariant.walked items all s is in
+    let o = c.in-Ok-eq0.ensures in
+    let t = o.ok items c.args.limit all _ w.0 (let n = c.pieces.invariant.within in omega (arith, n, w.1)) w.2 in
+    c.end_log.ensures.reached items c.args.limit all _ _ (w.0 ++ t.0) t.2 (o.ended c.in-Ok-eq0.field-0-test)
+
+pub returns-in-Err-clause-reached : goal.returns-in-Err-clause-reached
+returns-in-Err-clause-reached g c items all s is =
+    let w = c.pieces.invariant.walked items all s is in
+    c.in-Err.ensures.err items c.args.limit all _ w.0 (let n = c.pieces.invariant.within in omega (arith, n, w.1)) w.2
+
 pub pieces-preserved : goal.pieces-preserved
 pieces-preserved g c =
-    let counts = c.in-Judged.ensures.counts in
+    let i = c.pieces.invariant in
+    let o = c.in-Ok.ensures in
     record {
-      walked = λ f name stands. let w = c.pieces.invariant.walked f name stands in
-          let t = c.in-Judged.ensures.turned f name _ _ w.0 w.2 in
-          let n = length-append w.0 t.0 in
-          (w.0 ++ t.0, omega (arith, n, w.1, t.1), t.2);
-      sound = c.take_turn.ensures.sound;
-      begun = counts.2;
-      counted = counts.3;
-      events = omega (arith, counts.4, c.pieces.invariant.events);
-      fewer = c.take_turn.ensures.still_fewer;
-      within = omega (arith, counts.1, c.pieces.invariant.within);
-      later = omega (arith, c.take_turn.ensures.later, c.pieces.invariant.later);
-      out_later = omega (arith, c.take_turn.ensures.out_later, c.pieces.invariant.out_later);
+      walked = λ items all s is. let w = i.walked items all s is in
+          let t = o.ok items c.args.limit all _ w.0 (let n = i.within in omega (arith, n, w.1)) w.2 in
+          (w.0 ++ t.0, (let n = length-append w.0 t.0 in omega (arith, n, w.1, t.1)), t.2);
+      room = let n = c.take_turn.ensures.length in omega (arith, n, i.room);
+      closed = o.on;
+      fed = o.fed c.pieces.taken i.fed;
+      events = o.events;
+      fewer = o.still_fewer;
+      within = omega (arith, o.most, i.within);
+      later = omega (arith, c.take_turn.ensures.later, i.later);
+      out_later = omega (arith, c.take_turn.ensures.out_later, i.out_later);
     }
 
-pub returns-in-AtEnd-clause-read : goal.returns-in-AtEnd-clause-read
-returns-in-AtEnd-clause-read g c f name stands =
-    let w = c.pieces.invariant.walked f name stands in
-    let t = c.in-AtEnd.ensures.turned f name _ _ w.0 w.2 in
-    let is = c.bytes.ensures in
-    read_ended f name c.args.limit _ _ _ _ w.0 (held_of c.take_turn.new.buffer) c.take_turn.new.judge c.take_turn.new.output c.at_end.result.end c.at_end.result.events t.0 t.1 c.in-AtEnd.ensures.counts.0 (omega (arith, w.1, c.pieces.invariant.within))
-    c.at_end.ensures.events (rw is at c.at_end.ensures.odd) (rw is at c.at_end.ensures.all_true) (rw is at c.at_end.ensures.violated)
-
-pub returns-in-Odd-clause-read : goal.returns-in-Odd-clause-read
-returns-in-Odd-clause-read g c f name stands =
-    let w = c.pieces.invariant.walked f name stands in
-    let t = c.in-Odd.ensures.turned f name _ _ w.0 w.2 in
-    let n = length-append w.0 t.0 in
-    read_odd f name c.args.limit _ _ _ _ (w.0 ++ t.0) t.1 c.take_turn.new.judge c.take_turn.new.output c.take_turn.new.judge.events t.3 (omega (arith, n, t.2, w.1, c.pieces.invariant.within)) t.4
-
-pub returns-in-CannotRead-clause-read : goal.returns-in-CannotRead-clause-read
-returns-in-CannotRead-clause-read g c f name stands =
-    let w = c.pieces.invariant.walked f name stands in
-    let t = c.in-CannotRead.ensures.turned f name _ _ w.0 w.2 in
-    read_failed f name c.args.limit _ _ _ _ w.0 (held_of c.take_turn.new.buffer) c.take_turn.new.judge c.take_turn.new.output t (omega (arith, w.1, c.pieces.invariant.within)) c.in-CannotRead.ensures.counts
-
-pub returns-in-CannotWrite-clause-read : goal.returns-in-CannotWrite-clause-read
-returns-in-CannotWrite-clause-read g c f name stands =
-    let w = c.pieces.invariant.walked f name stands in
-    let t = c.in-CannotWrite.ensures.turned f name _ _ w.0 w.2 in
-    read_short f name c.args.limit _ _ _ _ _ t (omega (arith, w.1, c.pieces.invariant.within))
-
-pub returns-clause-read : goal.returns-clause-read
-returns-clause-read g c f name stands =
-    let w = c.pieces.invariant.walked f name stands in
-    c.past_limit.ensures.read f name _ _ w.0 w.2 (omega (arith, w.1, c.pieces-test.false, c.pieces.invariant.within))
+pub returns-clause-reached : goal.returns-clause-reached
+returns-clause-reached g c items all s is =
+    let w = c.pieces.invariant.walked items all s is in
+    c.past_limit.ensures.reached items all _ w.0 w.2 (let t = c.pieces-test.false in omega (arith, w.1, t, c.pieces.invariant.within))

@@ -1,0 +1,77 @@
+-- What a judge stands for after the events of a log, and how far a log was read.
+use Rattle.std.specs.Prelude.{◌≡◌, ℕ, ◌≤◌, List, [], ◌++◌, map, length, Bool, true, false, Option, Some}
+use Rattle.qtl_syntax.specs.Tree.{Text, Item}
+use Rattle.qtl_truth.specs.declared.event.Event.{Event}
+use Rattle.wellformed.specs.Kept.{AreKept}
+use Rattle.subformulas.specs.Table as table
+use Rattle.subformulas.specs.Unfolded.{props_at}
+use Rattle.untimed_monitor.specs.Stands as monitor
+use Rattle.log_reader.specs.Records.{Rest, cut}
+use Rattle.log_reader.specs.Standing.{Reading, Stands}
+use Rattle.monitor_run.specs.Passing.{Passes}
+use Rattle.monitor_run.specs.Report.{violation_lines}
+use Rattle.monitor_run.specs.Verdicts.{properties, names, AreVerdicts, false_count}
+use Rattle.monitor_run.specs.declared.judge.Judge.{Judge}
+
+-- the names of the monitor's properties
+abbrev pub names_in : monitor.State → List Text
+names_in m = map (λ q. q.name) m.plan.props
+
+-- the plan of the monitor is that of the items' properties
+pub record IsPlanOf (items : List Item) (plan : table.Table) : Type 0 where
+  pub sound : table.IsSound plan
+  pub kept : (log : List Event) → AreKept log [] [] items (props_at plan.subs plan.props)
+
+-- the monitor stands for the log, and the verdicts of its events are counted
+pub record StandsAt (items : List Item) (log : List Event) (rows : List (List Bool)) (judge : Judge) : Type 0 where
+  pub plan : IsPlanOf items judge.monitor.plan
+  pub stands : monitor.StandsFor judge.monitor log
+  pub right : AreVerdicts log (properties items) rows
+  pub events : judge.events ≡ length log
+  pub violations : judge.violations ≡ false_count rows
+
+-- of the records of these bytes, which were fed to the reader, these events were given
+pub record Fed (bytes : Text) (ended : Bool) (log : List Event) (r : Reading) : Type 0 where
+  pub stands : Stands bytes r
+  pub untimed : r.timed ≡ false
+  pub closed : r.ended ≡ ended
+  pub count : r.given ≡ length log
+  pub later : List Event
+  pub first : (cut bytes false ended).events ≡ log ++ later
+
+-- so many bytes were fed to the reader
+pub record IsFed (count : ℕ) (r : Reading) : Type 0 where
+  pub bytes : Text
+  pub ended : Bool
+  pub log : List Event
+  pub fed : Fed bytes ended log r
+  pub size : length bytes ≡ count
+
+-- the same, and they are not more than these
+pub record IsFedWithin (most : ℕ) (r : Reading) : Type 0 where
+  pub count : ℕ
+  pub fed : IsFed count r
+  pub few : count ≤ most
+
+-- Of a log these bytes were given, at most so many; of their events some were judged, and the violations of these were written
+-- or are held back.
+pub record Walked (items : List Item) (limit : ℕ) (all : Text) (left sent0 sent1 : Option Text) (given : Text) (ended : Bool) (judge : Judge) (r : Reading) (held : Text) : Type 0 where
+  pub rest : Text
+  pub split : all ≡ given ++ rest
+  pub remains : left ≡ Some rest
+  pub short : length given ≤ limit
+  pub closed : ended ≡ true → rest ≡ []
+  pub log : List Event
+  pub rows : List (List Bool)
+  pub fed : Fed given ended log r
+  pub stands : StandsAt items log rows judge
+  pub passed : Passes sent0 sent1 [] held (violation_lines 1 (names (properties items)) rows)
+
+-- the records of the bytes are these events, and no fault
+abbrev pub AreAll : Text → Bool → List Event → Type 0
+AreAll given ended log = cut given false ended ≡ record { events = log; end = Rest }
+
+-- all events of the bytes were judged
+pub record WalkedAll (items : List Item) (limit : ℕ) (all : Text) (left sent0 sent1 : Option Text) (given : Text) (ended : Bool) (judge : Judge) (r : Reading) (held : Text) : Type 0 where
+  pub walked : Walked items limit all left sent0 sent1 given ended judge r held
+  pub done : AreAll given ended walked.log

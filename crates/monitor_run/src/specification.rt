@@ -1,0 +1,157 @@
+//! The judge of a specification file.
+ghost use Rattle.std.specs.Prelude.{◌≡◌, ◌+◌, ◌^◌, ◌<◌, ◌≤◌, ℕ, Bool, List, [], ◌∷◌, length, vec_len, IfOk, IfErr, IfSome, IsErrOf};
+ghost use Rattle.std.specs.Io.KnownBytes.{Consumes, IsAtEnd};
+ghost use Rattle.mon_base.specs.Causes.{Rose};
+ghost use Rattle.monitor_run.specs.Files.{Gained, HurtsOne, OpensOne, StayTold};
+ghost use Rattle.monitor_run.specs.Specification.{SpecIs, SpecRead, SpecRefused, IsSpelled, IsUnspelled};
+
+use crate::MAX_SPEC;
+use crate::end::{End, Which};
+use crate::judge::Judge;
+use mon_base::{Files, NoMemory, OpenEnd, Source};
+use qtl_syntax::parse;
+use std::alloc::Global;
+use subformulas::make_plan;
+use untimed_monitor::{UntimedMonitor, is_plain, plain_plans};
+use wellformed::{check, short_texts_have_few_nodes};
+
+/// A read asks for so many bytes.
+const PIECE: usize = 65_536;
+
+/// Why a text wasn't read whole.
+#[derive(Clone, Copy, Debug, PartialEq, Eq)]
+enum TextEnd {
+    TooLong,
+    Failed,
+    NoMemory,
+}
+
+/// Room for the bytes of a read.
+pub fn read_room(alloc: Global) -> Result<Vec<u8>, NoMemory>
+    ensures { IfOk result (λ room. vec_len room ≡ 65536) }
+{
+    let room = vec![in alloc; 0u8; PIECE]?;
+    Ok(room)
+}
+
+/// All bytes of a source, which are at most `limit`. Each read asks for as many as `room` has.
+fn read_text<S: Source>(
+    alloc: Global,
+    source: &mut S,
+    room: &mut [u8],
+    limit: usize,
+) -> Result<Vec<u8>, TextEnd>
+    requires small { limit < 2 ^ 62 }
+    requires some { 0 < length room.old }
+    requires few { length room.old ≤ 65536 }
+    ensures ok { IfOk result (λ text. Consumes (S.left source.old) (S.left source.new) text.items × IsAtEnd (S.left source.new) × (length text.items ≤ limit)) }
+    ensures long { IsErrOf result TextEnd.TooLong → (given : List ℕ) × Consumes (S.left source.old) (S.left source.new) given × (limit < length given) }
+    ensures later { S.faults source.old ≤ S.faults source.new }
+    ensures failed { IsErrOf result TextEnd.Failed → Rose (S.faults source.old) (S.faults source.new) }
+{
+    let mut text = Vec::new(alloc);
+    'reads: while text.len() <= limit {
+        match source.read(room) {
+            Ok(0) => return Ok(text),
+            Ok(count) => match text.extend_from_slice(&room[..count]) {
+                Ok(()) => {}
+                Err(_) => return Err(TextEnd::NoMemory),
+            },
+            Err(_) => return Err(TextEnd::Failed),
+        }
+    }
+    Err(TextEnd::TooLong)
+}
+
+/// The text of the specification of this name.
+fn read_spec<F: Files>(alloc: Global, name: &str, files: &mut F) -> Result<Vec<u8>, End>
+    ensures ok { IfOk result (λ text. IfSome (F.texts files.old) (λ texts. SpecIs texts name.now text.items)) }
+    ensures short { IfOk result (λ text. length text.items ≤ 1048576) }
+    ensures err { IfErr result (λ end. SpecRefused (F.texts files.old) name.now (Rose (F.faults files.old) (F.faults files.new)) end) }
+    ensures opened { IfOk result (λ _. Gained (F.opened files.old) (F.opened files.new) (name.now ∷ [])) }
+    ensures asked { IfErr result (λ end. OpensOne name.now end (F.opened files.old) (F.opened files.new)) }
+    ensures unread { IfOk result (λ _. IfSome (F.texts files.old) (λ _. StayTold (F.unread files.old) (F.unread files.new))) }
+    ensures closed { IfOk result (λ _. (hurt : Bool) × Gained (F.hurt files.old) (F.hurt files.new) (hurt ∷ [])) }
+    ensures hurt { IfErr result (λ end. HurtsOne end (F.hurt files.old) (F.hurt files.new)) }
+    ensures texts { F.texts files.new ≡ F.texts files.old }
+    ensures lent { F.lent files.new ≡ F.lent files.old }
+    ensures later { F.faults files.old ≤ F.faults files.new }
+{
+    let mut room = match read_room(alloc) {
+        Ok(room) => room,
+        Err(_) => return Err(End::NoMemory),
+    };
+    match files.open(name) {
+        Ok(mut source) => {
+            let text = read_text(alloc, &mut source, room.as_mut_slice(), MAX_SPEC);
+            files.close(source);
+            match text {
+                Ok(text) => Ok(text),
+                Err(TextEnd::TooLong) => Err(End::SpecTooLong),
+                Err(TextEnd::Failed) => Err(End::ReadFault { which: Which::Spec }),
+                Err(TextEnd::NoMemory) => Err(End::NoMemory),
+            }
+        }
+        Err(OpenEnd::Failed) => Err(End::OpenFault { which: Which::Spec }),
+        Err(OpenEnd::NoMemory) => Err(End::NoMemory),
+    }
+}
+
+/// The judge of the properties that the text spells, which are to be accepted.
+pub fn judge_in(alloc: Global, text: &[u8]) -> Result<Judge, End>
+    requires short { length text.now ≤ 1048576 }
+    ensures ok { IfOk result (λ judge. IsSpelled text.now judge) }
+    ensures fresh { IfOk result (λ judge. (judge.events ≡ 0) × (judge.violations ≡ 0)) }
+    ensures err { IfErr result (λ end. IsUnspelled text.now end) }
+{
+    let spec = match parse(alloc, text) {
+        Ok(spec) => spec,
+        Err(fault) => return Err(fault.into()),
+    };
+    // A law, for the conditions of `check`.
+    short_texts_have_few_nodes();
+    let core = match check(alloc, spec) {
+        Ok(core) => core,
+        Err(fault) => return Err(fault.into()),
+    };
+    let plan = match make_plan(alloc, core) {
+        Ok(plan) => plan,
+        Err(_) => return Err(End::NoMemory),
+    };
+    // A law: the monitor takes a plan exactly where the specification has no quantifier and no timed operator.
+    plain_plans();
+    if !is_plain(&plan) {
+        return Err(End::NotBuilt);
+    }
+    // A law, for what holds of each plan.
+    let _rows = plan.count();
+    match UntimedMonitor::open(alloc, plan) {
+        Ok(monitor) => Ok(Judge {
+            monitor,
+            events: 0,
+            violations: 0,
+        }),
+        Err(_) => Err(End::NoMemory),
+    }
+}
+
+/// The judge of the specification file of this name.
+pub fn read_specification<F: Files>(alloc: Global, name: &str, files: &mut F) -> Result<Judge, End>
+    ensures ok { IfOk result (λ judge. SpecRead (F.texts files.old) name.now judge) }
+    ensures fresh { IfOk result (λ judge. (judge.events ≡ 0) × (judge.violations ≡ 0)) }
+    ensures err { IfErr result (λ end. SpecRefused (F.texts files.old) name.now (Rose (F.faults files.old) (F.faults files.new)) end) }
+    ensures opened { IfOk result (λ _. Gained (F.opened files.old) (F.opened files.new) (name.now ∷ [])) }
+    ensures asked { IfErr result (λ end. OpensOne name.now end (F.opened files.old) (F.opened files.new)) }
+    ensures unread { IfOk result (λ _. IfSome (F.texts files.old) (λ _. StayTold (F.unread files.old) (F.unread files.new))) }
+    ensures closed { IfOk result (λ _. (hurt : Bool) × Gained (F.hurt files.old) (F.hurt files.new) (hurt ∷ [])) }
+    ensures hurt { IfErr result (λ end. HurtsOne end (F.hurt files.old) (F.hurt files.new)) }
+    ensures texts { F.texts files.new ≡ F.texts files.old }
+    ensures lent { F.lent files.new ≡ F.lent files.old }
+    ensures later { F.faults files.old ≤ F.faults files.new }
+{
+    let text = match read_spec(alloc, name, files) {
+        Ok(text) => text,
+        Err(end) => return Err(end),
+    };
+    judge_in(alloc, text.as_slice())
+}
