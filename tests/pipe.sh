@@ -98,7 +98,7 @@ live() {
     compare "$1: the whole report" "$status" 1
 }
 
-# A line that can't become a plain one any more stops the program, though its line feed is not there.
+# A faulty record stops the program once the place of its fault was read, though its line feed is not there.
 stopped_at_once() {
     rm -f "$work/pipe"
     mkfifo "$work/pipe"
@@ -106,13 +106,13 @@ stopped_at_once() {
     bounded "$program" "$work/spec" - <"$work/pipe" >"$work/out" &
     child=$!
     exec 3<>"$work/pipe"
-    printf 'go,a\nstop,a\ngo,"' >&3
-    printf 'violation 2 r\nstopped: not built\n' >"$work/wanted"
+    printf 'go,a\nstop,a\ngo,"a"b' >&3
+    printf 'violation 2 r\nstopped: text after quote at record 3\n' >"$work/wanted"
     comes "$(cat "$work/wanted")"
-    verdict 'a line that is not plain: it stops the program while the log is open' $?
+    verdict 'a faulty record: it stops the program while the log is open' $?
     exec 3>&-
     wait "$child"
-    compare 'a line that is not plain: the whole report' $? 8
+    compare 'a faulty record: the whole report' $? 4
 }
 
 if command -v mkfifo >/dev/null; then
