@@ -89,4 +89,5 @@ def main():
             print(f"dejavu / {name}: {medians['dejavu'] / medians[name]:.1f}")
 
 
-main()
+if __name__ == "__main__":
+    main()

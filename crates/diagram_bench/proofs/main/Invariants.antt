@@ -1,0 +1,5 @@
+use Rattle.diagram_bench.proofs.main.Given as goal
+
+-- the ledger is that of the blank
+abbrev pub ghosts-run_in : goal.ghosts-run_in
+ghosts-run_in a = record { name = a.blank.name; parts = a.blank.parts }
