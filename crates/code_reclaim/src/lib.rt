@@ -1,0 +1,12 @@
+//! Which codes diagrams tell apart from all ones, and a book's codes taken back.
+
+#![tactic(auto)]
+
+mod reclaim;
+mod search;
+#[cfg(test)]
+mod tests;
+mod told;
+
+pub use reclaim::sweep;
+pub use told::is_told_apart;
