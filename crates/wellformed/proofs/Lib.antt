@@ -1,6 +1,7 @@
 pub mod Accepted
 pub mod Arguments
 pub mod Calls
+pub mod ClashItems
 pub mod Clashes
 pub mod Counting
 pub mod FewTerms

@@ -1,40 +1,22 @@
 //! The fourth pass: atoms of events with several numbers of terms.
-ghost use Rattle.std.specs.Prelude.{◌≡◌, ◌+◌, ◌<◌, ◌++◌, [], Some, None, map, length, IfOk};
+ghost use Rattle.std.specs.Prelude.{◌≡◌, ◌+◌, ◌<◌, ◌++◌, [], Some, None, is_some, map, length, IfOk};
 ghost use Rattle.std.specs.List.{AllByRecursion};
 ghost use Rattle.qtl_syntax.specs.Tree.{Atom, formula_of, item_of};
 ghost use Rattle.qtl_truth.specs.Items.{before_of};
-ghost use Rattle.wellformed.specs.Clash.{atoms_of, IsAtomClash, IsClash};
-ghost use Rattle.wellformed.specs.Faults.{body_of, clash_pass, clashes, event_atom, first_in, is_other, nodes_of, HasFewNodes};
+ghost use Rattle.wellformed.specs.Clash.{seen_in, IsAtomClash, IsClash};
+ghost use Rattle.wellformed.specs.Faults.{body_of, clash_pass, event_atom, first_in, nodes_of, HasFewNodes};
+ghost use Rattle.wellformed.specs.Macros.{macro_of};
 
 use crate::macros::find_macro;
 use qtl_syntax::{Formula, Item, Term, Text};
-use sqlite_items::Items;
 use std::alloc::{AllocError, Global};
+use std::collections::BTreeMap;
 
-/// The name of an atom that is no call, and how many terms it has.
-#[derive(Debug, Drop)]
-pub struct Arity {
-    pub name: Text,
-    pub terms: usize,
-}
-
-/// Whether the atom that was seen has this name and another number of terms.
-fn is_other(arity: &Arity, name: &Text, terms: usize) -> bool
-    ensures { result ≡ is_other (arity.now.name, arity.now.terms) (name.now, terms) }
+/// Whether an atom of this name is a call.
+fn is_call(before: &[Item], name: &Text) -> bool
+    ensures { result ≡ is_some (macro_of (before_of before.now) name.now) }
 {
-    arity.name.is_same(name) && arity.terms != terms
-}
-
-/// Whether an atom of this name with another number of terms was seen.
-fn has_other(seen: &[Arity], name: &Text, terms: usize) -> bool
-    ensures { result ≡ clashes (atoms_of seen.now) (Some (name.now, terms)) }
-{
-    for arity in seen {
-        if is_other(arity, name, terms) {
-            return true;
-        }
-    }
-    false
+    find_macro(before, name).is_some()
 }
 
 /// Whether the atom clashes with one that was seen; else it is seen too, unless it is a call.
@@ -42,21 +24,20 @@ fn atom_clashes(
     before: &[Item],
     name: &Text,
     terms: &[Term],
-    seen: &mut Items<Arity>,
+    seen: &mut BTreeMap<Text, usize>,
 ) -> Result<bool, AllocError>
-    ensures { IfOk result (λ b. IsAtomClash seen.old (event_atom (before_of before.now) (Atom name.now terms.now)) seen.new b) }
+    ensures { IfOk result (λ b. IsAtomClash (seen_in seen.old) (event_atom (before_of before.now) (Atom name.now terms.now)) (seen_in seen.new) b) }
 {
-    if find_macro(before, name).is_some() {
+    if is_call(before, name) {
         return Ok(false);
     }
-    if has_other(seen.as_slice(), name, terms.len()) {
-        return Ok(true);
+    match seen.get(name).copied() {
+        Some(count) => Ok(count != terms.len()),
+        None => {
+            seen.insert(name.copy()?, terms.len())?;
+            Ok(false)
+        }
     }
-    seen.push(Arity {
-        name: name.copy()?,
-        terms: terms.len(),
-    })?;
-    Ok(false)
 }
 
 /// Whether a node of the formula clashes with an atom that was seen. The first of its nodes has the number `node`, which
@@ -66,10 +47,10 @@ fn any_clashes(
     before: &[Item],
     formula: &Formula,
     node: &mut u32,
-    seen: &mut Items<Arity>,
+    seen: &mut BTreeMap<Text, usize>,
 ) -> Result<bool, AllocError>
     requires few { node.old + length (nodes_of (formula_of formula.now)) < 4294967296 }
-    ensures { IfOk result (λ b. IsClash (before_of before.now) seen.old node.old (nodes_of (formula_of formula.now)) node.new seen.new b) }
+    ensures { IfOk result (λ b. IsClash (before_of before.now) (seen_in seen.old) node.old (nodes_of (formula_of formula.now)) node.new (seen_in seen.new) b) }
 {
     match formula {
         Formula::True | Formula::False => {
@@ -114,10 +95,10 @@ fn either_clashes(
     f: &Formula,
     g: &Formula,
     node: &mut u32,
-    seen: &mut Items<Arity>,
+    seen: &mut BTreeMap<Text, usize>,
 ) -> Result<bool, AllocError>
     requires few { node.old + length (nodes_of (formula_of f.now) ++ nodes_of (formula_of g.now)) < 4294967296 }
-    ensures { IfOk result (λ b. IsClash (before_of before.now) seen.old node.old (nodes_of (formula_of f.now) ++ nodes_of (formula_of g.now)) node.new seen.new b) }
+    ensures { IfOk result (λ b. IsClash (before_of before.now) (seen_in seen.old) node.old (nodes_of (formula_of f.now) ++ nodes_of (formula_of g.now)) node.new (seen_in seen.new) b) }
 {
     if any_clashes(before, f, node, seen)? {
         return Ok(true);
@@ -140,7 +121,7 @@ pub fn first_clash(alloc: Global, items: &[Item]) -> Result<Option<(u32, u32)>, 
     requires few { AllByRecursion HasFewNodes (map item_of items.now) }
     ensures { IfOk result (λ o. o ≡ first_in clash_pass [] 0 (map item_of items.now)) }
 {
-    let mut seen = Items::new(alloc);
+    let mut seen = BTreeMap::new(alloc);
     for m in 0..items.len() {
         let mut node = 0;
         if any_clashes(&items[..m], body_of(&items[m]), &mut node, &mut seen)? {
