@@ -194,6 +194,30 @@ const PROPERTIES: &[Case] = &[
         "violation 1 r\nevents 1 violations 1\n",
         1,
     ),
+    (
+        "prop r : p(\"a,b\") S q",
+        "q\np,a,b\np,\"a,b\"\n",
+        "violation 2 r\nviolation 3 r\nevents 3 violations 2\n",
+        1,
+    ),
+    (
+        "prop r : p(\"a,b\")",
+        "p,\"a,b\"\n",
+        "events 1 violations 0\n",
+        0,
+    ),
+    (
+        "prop r : p(\"\",7)",
+        "p,,7\np,,07\n",
+        "violation 2 r\nevents 2 violations 1\n",
+        1,
+    ),
+    (
+        "prop r : a S (b S c)",
+        "c\nb\na\nb\n",
+        "violation 4 r\nevents 4 violations 1\n",
+        1,
+    ),
 ];
 
 const NOT_BUILT: &[Case] = &[
@@ -278,30 +302,6 @@ const SPEC_FAULTS: &[Case] = &[
         "go\n",
         "stopped: bound too large at token 6\n",
         3,
-    ),
-    (
-        "prop r : p(\"a,b\") S q",
-        "q\np,a,b\np,\"a,b\"\n",
-        "violation 2 r\nviolation 3 r\nevents 3 violations 2\n",
-        1,
-    ),
-    (
-        "prop r : p(\"a,b\")",
-        "p,\"a,b\"\n",
-        "events 1 violations 0\n",
-        0,
-    ),
-    (
-        "prop r : p(\"\",7)",
-        "p,,7\np,,07\n",
-        "violation 2 r\nevents 2 violations 1\n",
-        1,
-    ),
-    (
-        "prop r : a S (b S c)",
-        "c\nb\na\nb\n",
-        "violation 4 r\nevents 4 violations 1\n",
-        1,
     ),
 ];
 
