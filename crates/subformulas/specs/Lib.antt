@@ -1,3 +1,7 @@
 pub mod Numbering
 pub mod Table
 pub mod Unfolded
+pub mod Assigned
+pub mod Memory
+pub mod Needs
+pub mod Laws

@@ -2,6 +2,7 @@
 #![tactic(auto)]
 
 mod flatten;
+pub mod laws;
 mod numbering;
 mod plan;
 mod table;
