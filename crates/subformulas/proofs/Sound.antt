@@ -12,7 +12,7 @@ use Rattle.wellformed.specs.CoreTree.{CoreFormula, core_of, props_of}
 use Rattle.wellformed.specs.Sound.{nodes, nodes_of, variables_bound, are_closed, have_lawful_bounds}
 use Rattle.subformulas.specs.Numbering.{all_numbered, roots}
 use Rattle.subformulas.specs.Table.{IsSound}
-use Rattle.subformulas.proofs.Rows.{all_table, all_rows, roots_within, roots_are, props_few, all_uses, bounds_of}
+use Rattle.subformulas.proofs.NumberedRows.{all_table, all_rows, roots_within, roots_are, props_few, all_uses, bounds_of}
 
 pub is_sound : (variables : List rust_variable.Variable) (props : List (Text × CoreFormula)) → 1 ≤ length props → length variables ≤ 64 → nodes_of props ≤ 4096 →
     variables_bound props ≡ range_with_len 0 (length variables) → IsTrue (are_closed props) → IsTrue (have_lawful_bounds props) →

@@ -11,7 +11,7 @@ use Rattle.qtl_truth.specs.NumberedAtom.{IsAtomOf}
 use Rattle.qtl_truth.specs.Truth.{event_at}
 use Rattle.subformulas.specs.Table.{AreBelow}
 use Rattle.untimed_monitor.proofs.Steps.{never}
-use Rattle.untimed_monitor.proofs.Table.{get_last}
+use Rattle.subformulas.proofs.ByNumber.{get_last}
 
 pub no_variables : (terms : List AtomTerm) → AreBelow 0 terms → variables_of terms ≡ []
 no_variables [] h = refl

@@ -1,6 +1,6 @@
 mod Atoms
 mod First
+mod Roots
 mod Rows
 mod Steps
-mod Table
 mod Walking

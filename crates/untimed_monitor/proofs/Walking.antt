@@ -10,7 +10,7 @@ use Rattle.subformulas.specs.Unfolded.{formula_at}
 use Rattle.subformulas.specs.declared.table.Sub.{Sub}
 use Rattle.untimed_monitor.specs.Kept.{Tells, ChildTells, IsKept, GivesTruth, GivesKept}
 use Rattle.untimed_monitor.specs.Stands.{AreKept, AreTold, State, StandsFor, Walks}
-use Rattle.untimed_monitor.proofs.Table.{row_at, first_child, second_child}
+use Rattle.subformulas.proofs.ByNumber.{row_at, first_child, second_child}
 
 -- a child's truth is told before its parent's
 child_told : (subs : List Sub) (log : List Event) (i k number : ℕ) (b : Bool) (truths : List Bool) → AreTold subs log i k truths → (1 ≤ number) × (number < k + 1) →

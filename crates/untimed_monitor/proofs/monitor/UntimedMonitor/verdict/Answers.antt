@@ -1,6 +1,6 @@
 use Rattle.std.proofs.Common.{◌≡◌, ◌∙◌, length, sym}
 use Rattle.std.specs.Prelude.{Some}
-use Rattle.untimed_monitor.proofs.Table.{root_within, verdict_at}
+use Rattle.untimed_monitor.proofs.Roots.{root_within, verdict_at}
 use Rattle.untimed_monitor.proofs.Walking.{verdict_told}
 use Rattle.untimed_monitor.proofs.monitor.UntimedMonitor.verdict.Goals as goal
 
