@@ -2,6 +2,7 @@
 ghost use Rattle.std.specs.Prelude.{◌≡◌, ◌-◌, ◌≤◌, ◌<◌, length, slice_get, Some};
 ghost use Rattle.std.specs.List.{list_any};
 ghost use Rattle.std.specs.Option.{option_map};
+ghost use Rattle.subformulas.specs.OperationRows.{rows_of};
 ghost use Rattle.subformulas.specs.Table.{is_timed, IsSound};
 
 use crate::table::{Kind, PlanProp, Sub};
@@ -56,6 +57,24 @@ fn is_timed(kind: &Kind) -> bool
     }
 }
 
+/// How many operation rows the kind has.
+fn rows_of(kind: &Kind, bits: u8) -> u32
+    ensures { result ≡ rows_of kind.now bits }
+{
+    match kind {
+        Kind::True | Kind::False | Kind::Prev => 0,
+        Kind::Atom(_) => 1,
+        Kind::Not | Kind::And | Kind::Or | Kind::Implies | Kind::Iff => 1,
+        Kind::Exists(_) | Kind::Forall(_) => bits as u32,
+        Kind::Once | Kind::Always => 1,
+        Kind::Since | Kind::Interval => 2,
+        Kind::OnceAtMost(_) => 5,
+        Kind::SinceAtMost(_) | Kind::OnceMoreThan(_) => 6,
+        Kind::AlwaysAtMost(_) | Kind::SinceMoreThan(_) => 7,
+        Kind::AlwaysMoreThan(_) => 8,
+    }
+}
+
 /// Whether one of the rows is a timed operator.
 fn has_timed(subs: &[Sub]) -> bool
     ensures { result ≡ list_any (λ s. is_timed s.kind) subs.now }
@@ -84,6 +103,15 @@ impl Plan {
         ensures { slice_get self.now.subs (k - 1) ≡ Some result.now }
     {
         &self.subs.as_slice()[k as usize - 1]
+    }
+
+    /// How many operation rows subformula k, counted from 1, has where a variable has so many bits.
+    pub fn rows(&self, k: u32, bits: u8) -> u32
+        requires from { 1 ≤ k }
+        requires to { k ≤ length self.now.subs }
+        ensures { option_map (λ s. rows_of s.kind bits) (slice_get self.now.subs (k - 1)) ≡ Some result }
+    {
+        rows_of(&self.sub(k).kind, bits)
     }
 
     /// The variables, by number.

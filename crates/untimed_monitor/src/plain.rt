@@ -1,7 +1,8 @@
 //! Which plans the monitor takes.
 ghost use Rattle.std.specs.Prelude.{◌≡◌, ◌<◌, ◌↔◌, length, IsTrue};
 ghost use Rattle.std.specs.List.{AllByRecursion};
-ghost use Rattle.untimed_monitor.specs.Stands.{HasFewTerms, IsPlain};
+ghost use Rattle.subformulas.specs.Table.{HasFewTerms};
+ghost use Rattle.untimed_monitor.specs.Stands.{IsPlain};
 
 use subformulas::{Kind, Plan};
 

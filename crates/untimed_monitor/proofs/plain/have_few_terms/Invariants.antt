@@ -1,7 +1,7 @@
 use Rattle.std.proofs.Common.{◌≡◌, ◌<◌, ℕ}
 use Rattle.std.specs.Prelude.{Some, slice_get}
 use Rattle.subformulas.specs.declared.table.Sub.{Sub}
-use Rattle.untimed_monitor.specs.Stands.{HasFewTerms}
+use Rattle.subformulas.specs.Table.{HasFewTerms}
 use Rattle.untimed_monitor.proofs.plain.have_few_terms.Given as goal
 
 abbrev pub invariant-loop-k : goal.invariant-loop-k
