@@ -15,7 +15,7 @@ use Rattle.qtl_truth.specs.declared.matching.Place.{Place}
 use Rattle.qtl_truth.specs.declared.numbered_atom.Atom.{Atom}
 use Rattle.qtl_truth.specs.declared.numbered_atom.AtomTerm.{AtomTerm}
 use Rattle.qtl_truth.specs.declared.numbered_atom.AtomTerm.TheVariants.{Variable, Constant}
-use Rattle.qtl_truth.specs.Matching.{arg_at, place_variables, with_term, with_terms, variables_of, Binds, IsMatch}
+use Rattle.qtl_truth.specs.Matching.{arg_at, IsGiven, place_variables, with_term, with_terms, variables_of, Binds, IsMatch}
 use Rattle.qtl_truth.specs.NumberedAtom.{text_under, texts_under, IsAtomOf}
 use Rattle.qtl_truth.specs.Truth.{with_first}
 use Rattle.qtl_truth.proofs.Places.{atom_of, atom_parts, has_none, has_place}
@@ -213,6 +213,25 @@ given_some a e b x k h at =
     let place = has_place b x k at in
     let there : occurs x a.terms ≡ true = sym (any_variable x [] a.terms) ∙ ap (λ vs. list_any (λ w. nat_eq w x) vs) (sym h.each) ∙ place.seen in
     given_own h.some.0 a.terms e.args x p.1 ∙ rw there (place.gives h.some.0 e.args ((h.exactly h.some.0).0 h.some.1))
+
+-- each place gives its variable the text of its argument
+place_seen : (ps : List Place) (i : ℕ) (p : Place) → slice_get ps i ≡ Some p → list_any (λ w. nat_eq w p.variable) (place_variables ps) ≡ true
+place_seen [] i p e = absurd (let no : ⊥ = cc in no)
+place_seen (q ∷ ps) zero p e =
+    let same : q ≡ p = cc in
+    rw same (seen_now p.variable (list_any (λ w. nat_eq w p.variable) (place_variables ps)))
+place_seen (q ∷ ps) (suc i) p e = seen_later (nat_eq q.variable p.variable) (list_any (λ w. nat_eq w p.variable) (place_variables ps)) (place_seen ps i p e)
+
+place_gives : (nu args : List Text) (ps : List Place) (i : ℕ) (p : Place) → IsGiven nu args ps → slice_get ps i ≡ Some p → slice_get nu p.variable ≡ slice_get args p.arg
+place_gives nu args [] i p h e = absurd (let no : ⊥ = cc in no)
+place_gives nu args (q ∷ ps) zero p h e = let same : q ≡ p = cc in rw (← same) h.0
+place_gives nu args (q ∷ ps) (suc i) p h e = place_gives nu args ps i p h.1 e
+
+pub given_at : (a : Atom) (e : Event) (b : List Place) (i : ℕ) (p : Place) → Binds a e b → slice_get b i ≡ Some p → given a.terms e.args p.variable ≡ slice_get e.args p.arg
+given_at a e b i p h at =
+    let parts = atom_parts h.some.0 a e h.some.1 in
+    let there : occurs p.variable a.terms ≡ true = sym (any_variable p.variable [] a.terms) ∙ ap (λ vs. list_any (λ w. nat_eq w p.variable) vs) (sym h.each) ∙ place_seen b i p at in
+    given_own h.some.0 a.terms e.args p.variable parts.1 ∙ rw there (place_gives h.some.0 e.args b i p ((h.exactly h.some.0).0 h.some.1) at)
 
 -- no variable stands twice, so below v there are at most v
 any_turned : (x : ℕ) (vs : List ℕ) → list_any (nat_eq x) vs ≡ list_any (λ w. nat_eq w x) vs

@@ -10,13 +10,13 @@ use Rattle.std.proofs.lemmas.Option.{slice_get-get_or}
 use Rattle.std.proofs.lemmas.Slice.Eq.{bytes_eq-Decides}
 use Rattle.qtl_syntax.specs.Tree.{Text}
 use Rattle.qtl_truth.specs.declared.matching.Place.{Place}
-use Rattle.qtl_truth.specs.Matching.{arg_at, place_variables, ArgsBelow as PlacesBelow}
+use Rattle.qtl_truth.specs.Matching.{arg_at, place_variables, ArgsBelow}
 use Rattle.subformulas.specs.declared.need_list.Need.{Need}
 use Rattle.subformulas.specs.NeedList.{AreByVariable, entries_of, entry_texts, texts_for, with_text, with_texts}
 use Rattle.subformulas.specs.Needs.{as_list}
 
 -- what holds of each, in parts
-pub all_append : (P : Need → Type 0) (fs bs : List Need) → AllByRecursion P fs → AllByRecursion P bs → AllByRecursion P (fs ++ bs)
+all_append : (P : Need → Type 0) (fs bs : List Need) → AllByRecursion P fs → AllByRecursion P bs → AllByRecursion P (fs ++ bs)
 all_append P [] bs h k = k
 all_append P (f ∷ fs) bs h k = (h.0, all_append P fs bs h.1 k)
 
@@ -81,21 +81,8 @@ pub entry_order : (ns : List Need) (n : Need) (i : ℕ) → AreByVariable ns →
     AreByVariable (insert ns i n)
 entry_order ns n i h front back = order_between (take i ns) (drop i ns) n (rw (take-append-drop i ns) h) front back
 
-pub entry_all : (P : Need → Type 0) (ns : List Need) (n : Need) (i : ℕ) → P n → AllByRecursion P ns → AllByRecursion P (insert ns i n)
-entry_all P ns n i p h = all_between P (take i ns) (drop i ns) n p (rw (take-append-drop i ns) h)
-
--- a text that is there adds nothing
-there_by : (b : Bool) (x : ℕ) (n : Need) (t : Text) (ts : List Text) → nat_eq x n.variable ≡ b → (x ≡ n.variable → list_any (bytes_eq t) ts ≡ true) →
-    ts ≡ with_texts ts (if b then t ∷ [] else [])
-there_by true x n t ts e old = let same : x ≡ n.variable = grind (arith, nat_tests) in rw (old same) refl
-there_by false x n t ts e old = refl
-
-pub entry_there : (x : ℕ) (args : List Text) (ns : List Need) (n : Need) (t : Text) → t ≡ slice_index_or args n.arg [] → list_any (bytes_eq t) (texts_for n.variable args ns) ≡ true →
-    texts_for x args ns ≡ with_texts (texts_for x args ns) (entry_texts x args n)
-entry_there x args ns n t is old = there_by (nat_eq x n.variable) x n (slice_index_or args n.arg []) (texts_for x args ns) refl (λ same. rw (← is, same) old)
-
 -- texts of one entry, and then of others
-pub with_more : (ts us vs : List Text) → with_texts ts (us ++ vs) ≡ with_texts (with_texts ts us) vs
+with_more : (ts us vs : List Text) → with_texts ts (us ++ vs) ≡ with_texts (with_texts ts us) vs
 with_more ts [] vs = refl
 with_more ts (u ∷ us) vs = with_more (with_text ts u) us vs
 
@@ -122,7 +109,7 @@ places_by true x args g p ps e apart within none some more =
     rw (some p.arg refl, slice_get-get_or args p.arg [] within, rest) refl
 places_by false x args g p ps e apart within none some more = more none some
 
-pub place_texts : (x : ℕ) (args : List Text) (g : Option Text) (ps : List Place) → IsDistinct nat_eq (place_variables ps) → PlacesBelow (length args) ps →
+pub place_texts : (x : ℕ) (args : List Text) (g : Option Text) (ps : List Place) → IsDistinct nat_eq (place_variables ps) → ArgsBelow (length args) ps →
     (arg_at ps x ≡ None → g ≡ None) → ((k : ℕ) → arg_at ps x ≡ Some k → g ≡ slice_get args k) → texts_for x args (entries_of ps) ≡ as_list g
 place_texts x args g [] distinct within none some = rw (none refl) refl
 place_texts x args g (p ∷ ps) distinct within none some =
@@ -190,7 +177,7 @@ places_more x args ts us goal ps i d l h is =
     ∙ ap (λ qs. with_texts ts (texts_for x args (entries_of qs))) (sym (from_place ps i d l))
     ∙ h
 
-pub places_within : (n : ℕ) (ps : List Place) (i : ℕ) (d : Place) → i < length ps → PlacesBelow n (drop i ps) → ((get_or ps i d).arg < n) × PlacesBelow n (drop (i + 1) ps)
+pub places_within : (n : ℕ) (ps : List Place) (i : ℕ) (d : Place) → i < length ps → ArgsBelow n (drop i ps) → ((get_or ps i d).arg < n) × ArgsBelow n (drop (i + 1) ps)
 places_within n ps i d l h = rw (from_place ps i d l) at h
 
 pub places_below : (v : ℕ) (ps : List Place) (i : ℕ) (d : Place) → i < length ps → AllByRecursion (λ x. x < v) (place_variables (drop i ps)) →

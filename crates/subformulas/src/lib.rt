@@ -14,4 +14,6 @@ pub use plan::Plan;
 pub use table::{Kind, PlanProp, Sub};
 
 #[cfg(test)]
+mod need_tests;
+#[cfg(test)]
 mod tests;

@@ -1,9 +1,9 @@
 //! A plan: the table of subformulas, with the variables and the properties.
-ghost use Rattle.std.specs.Prelude.{◌≡◌, ◌-◌, ◌≤◌, ◌<◌, length, slice_get, Some};
-ghost use Rattle.std.specs.List.{list_any};
+ghost use Rattle.std.specs.Prelude.{◌≡◌, ◌-◌, ◌≤◌, ◌<◌, ◌↔◌, length, slice_get, Some, IsTrue};
+ghost use Rattle.std.specs.List.{AllByRecursion, list_any};
 ghost use Rattle.std.specs.Option.{option_map};
 ghost use Rattle.subformulas.specs.OperationRows.{rows_of};
-ghost use Rattle.subformulas.specs.Table.{is_timed, IsSound};
+ghost use Rattle.subformulas.specs.Table.{is_timed, HasFewTerms, IsSound};
 
 use crate::table::{Kind, PlanProp, Sub};
 use qtl_syntax::Text;
@@ -87,6 +87,31 @@ fn has_timed(subs: &[Sub]) -> bool
     false
 }
 
+/// More terms than `matches` of `qtl_truth` takes.
+const TERMS: u64 = 4_294_967_296;
+
+/// Whether an atom has fewer than 2^32 terms.
+fn has_few_terms(kind: &Kind) -> bool
+    ensures { IsTrue result ↔ HasFewTerms kind.now }
+{
+    match kind {
+        Kind::Atom(atom) => (atom.terms.len() as u64) < TERMS,
+        _ => true,
+    }
+}
+
+/// Whether each atom has fewer than 2^32 terms.
+fn have_few_terms(subs: &[Sub]) -> bool
+    ensures { IsTrue result ↔ AllByRecursion (λ s. HasFewTerms s.kind) subs.now }
+{
+    for sub in subs {
+        if !has_few_terms(&sub.kind) {
+            return false;
+        }
+    }
+    true
+}
+
 impl Plan {
     /// How many subformulas there are. Each plan is sound.
     pub fn count(&self) -> u32
@@ -149,5 +174,12 @@ impl Plan {
         ensures { result ≡ list_any (λ s. is_timed s.kind) self.now.subs }
     {
         has_timed(self.subs.as_slice())
+    }
+
+    /// Whether each atom has fewer than 2^32 terms. Of a text of at most 1,048,576 bytes each has.
+    pub fn has_few_terms(&self) -> bool
+        ensures { IsTrue result ↔ AllByRecursion (λ s. HasFewTerms s.kind) self.now.subs }
+    {
+        have_few_terms(self.subs.as_slice())
     }
 }
