@@ -12,3 +12,4 @@ pub mod Told
 pub mod Stands
 pub mod Verdict
 pub mod Decided
+pub mod AtomRows
