@@ -8,6 +8,7 @@ pub mod Books
 pub mod Room
 pub mod Exact
 pub mod Order
+pub mod Counted
 pub mod Told
 pub mod Stands
 pub mod Verdict
