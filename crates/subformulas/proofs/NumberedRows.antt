@@ -1,7 +1,7 @@
 -- What holds of the rows of a formula, and of those of properties.
-use Rattle.std.proofs.Common.{◌≡◌, ℕ, ◌+◌, ◌-◌, ◌<◌, ◌≤◌, List, [], ◌∷◌, ◌++◌, length, length-append, append_assoc, zero, suc, refl, Bool, true, false, IsTrue, ap, sym, ◌∙◌, arith}
-use Rattle.std.specs.Prelude.{map, ◌&&◌, ◌||◌, nat_eq, nat_le}
-use Rattle.std.specs.List.{AllByRecursion, list_any, list_all, range_with_len}
+use Rattle.std.proofs.Common.{◌≡◌, ℕ, ◌+◌, ◌<◌, ◌≤◌, List, [], ◌∷◌, ◌++◌, length, length-append, zero, suc, refl, Bool, true, false, IsTrue, arith}
+use Rattle.std.specs.Prelude.{◌&&◌, ◌||◌, nat_eq, nat_le}
+use Rattle.std.specs.List.{AllByRecursion, list_any, range_with_len}
 use Rattle.std.proofs.lemmas.Bool.Decides.{nat_tests}
 use Rattle.qtl_syntax.specs.declared.formula.Bound.{Bound}
 use Rattle.qtl_syntax.specs.declared.formula.Bound.TheVariants.{AtMost, MoreThan}
@@ -11,7 +11,6 @@ use Rattle.qtl_truth.specs.declared.numbered_atom.AtomTerm.{AtomTerm}
 use Rattle.qtl_truth.specs.declared.numbered_atom.AtomTerm.TheVariants.{Variable, Constant}
 use Rattle.subformulas.specs.declared.table.Kind.{Kind}
 use Rattle.subformulas.specs.declared.table.Kind.TheVariants as kind
-use Rattle.subformulas.specs.declared.table.PlanProp.{PlanProp}
 use Rattle.subformulas.specs.declared.table.Sub.{Sub}
 use Rattle.wellformed.specs.CoreTree.{CoreFormula, True, False, Atom, Not, And, Or, Implies, Iff, Prev, Since, TimedSince, Once, TimedOnce, Always, TimedAlways, Interval, Exists, Forall}
 use Rattle.wellformed.specs.Sound.{nodes, bound_by, are_among, is_closed, has_lawful_bounds, nodes_of, variables_bound, are_closed, have_lawful_bounds}
