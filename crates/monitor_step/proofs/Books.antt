@@ -44,7 +44,7 @@ module _ (bits : ℕ) (subs : List Sub) (table : IsUntimedTable subs) (log : Lis
     reads_same : (book book' : Pairs) (c : ℕ) → value_of book' c ≡ value_of book c → SameMemory subs log x i (reads book (fresh log (i + 1)) c) (reads book' (fresh log (i + 1)) c)
     reads_same book book' c h = subst (λ o. SameMemory subs log x i (reads book (fresh log (i + 1)) c) (unwrap_or o (fresh log (i + 1)))) (sym h) (λ k nu p. same)
 
-    swept_same : SameReadings subs table log i x before (keep (told ++ needed) before)
+    swept_same : SameReadings subs log i x before (keep (told ++ needed) before)
     swept_same c = by_case (swept (told ++ needed) before c sound.paired)
       where
         by_case : Swept (told ++ needed) (value_of before c) (value_of (keep (told ++ needed) before) c) → SameMemory subs log x i (reads before (fresh log (i + 1)) c) (reads (keep (told ++ needed) before) (fresh log (i + 1)) c)
@@ -60,7 +60,7 @@ module _ (bits : ℕ) (subs : List Sub) (table : IsUntimedTable subs) (log : Lis
       pub paired : IsPaired book
       pub below : EachPair (λ c t. c < 2 ^ bits - 1) book
       pub texts : EachPair (λ c t. IsText t) book
-      pub reading : SameReadings subs table log i x before book
+      pub reading : SameReadings subs log i x before book
       pub plain : (t : Text) → code_of book t ≡ None → IsPlain subs log x i t
       pub needs : (t : Text) → Has needed t → code_of book t ≡ None → code_of before t ≡ None
 
@@ -94,7 +94,7 @@ module _ (bits : ℕ) (subs : List Sub) (table : IsUntimedTable subs) (log : Lis
     room : Room (with_room bits told needed before)
     room = by_if Room (nat_lt (free_count bits before) (length (without_code before needed))) (keep (told ++ needed) before) before room_kept room_all
 
-    gives_same : (ts : List Text) (book after : Pairs) → Gives bits ts book after → ((t : Text) → Has ts t → IsPlain subs log x i t) → SameReadings subs table log i x book after
+    gives_same : (ts : List Text) (book after : Pairs) → Gives bits ts book after → ((t : Text) → Has ts t → IsPlain subs log x i t) → SameReadings subs log i x book after
     gives_same [] book after g p c k nu h = reads_same book after c (ap (λ b. value_of b c) g) k nu h
     gives_same (u ∷ ts) book after (d, n, l, m, g) p c k nu h =
         joined (by_test (eqb_tells d c) k nu h) (gives_same ts ((u, d) ∷ book) after g (λ t q. p t (inr q)) c k nu h)
@@ -113,7 +113,7 @@ module _ (bits : ℕ) (subs : List Sub) (table : IsUntimedTable subs) (log : Lis
       new_plain t h = sound.plain t (without_from before (need subs x e) t h).1
 
       -- each code reads, in the new book, as a text that gives the same memory
-      pub next_readings : SameReadings subs table log i x before after
+      pub next_readings : SameReadings subs log i x before after
       next_readings c k nu h = joined (room.reading c k nu h) (gives_same _ _ after next new_plain c k nu h)
 
       -- each needed text has a code
