@@ -1,8 +1,6 @@
 -- Books keep what drawing asks of them: a text without a code is plain, and a code without a pair reads like all ones.
-use Rattle.std.proofs.Common.{◌≡◌, ◌≢◌, ℕ, zero, suc, ◌+◌, ◌-◌, ◌^◌, ◌<◌, ◌⊎◌, inl, inr, ⊎_elim, sym, ap, ◌∙◌, refl, subst, arith, List, [], ◌∷◌, ◌++◌, length, true, false, Option, Some, None}
-use Rattle.std.specs.Prelude.{nat_eq, nat_lt, if◌then◌else◌, unwrap_or, slice_get}
-use Rattle.std.specs.List.{list_any}
-use Rattle.std.specs.Prelude.{bytes_eq}
+use Rattle.std.proofs.Common.{◌≡◌, ◌≢◌, ℕ, zero, suc, ◌+◌, ◌-◌, ◌^◌, ◌<◌, inl, inr, ⊎_elim, sym, ap, ◌∙◌, refl, subst, arith, List, [], ◌∷◌, ◌++◌, length, true, false, Some, None}
+use Rattle.std.specs.Prelude.{nat_eq, nat_lt, unwrap_or, slice_get}
 use Rattle.std.proofs.lemmas.Bool.Decides.{eqb_tells}
 use Rattle.qtl_syntax.specs.Tree.{Text}
 use Rattle.qtl_truth.specs.declared.event.Event.{Event}
@@ -20,7 +18,7 @@ use Rattle.subformulas.proofs.Decide.{untold_plain}
 use Rattle.value_codes.specs.Pairs.{Pairs, code_of, value_of, IsPaired}
 use Rattle.value_codes.proofs.Lookups.{Tells, some_none}
 use Rattle.monitor_step.specs.Books.{Gives, keep, without_code, free_count, with_room, IsNextBook, IsBook, reads}
-use Rattle.monitor_step.proofs.Pairing.{any_has, by_if, code_kept, paired_kept, Swept, swept, code_back, gives_code, gives_all, gives_paired, EachPair, gives_each, without_has, without_from, selects}
+use Rattle.monitor_step.proofs.Pairing.{any_has, by_if, paired_kept, Swept, swept, code_back, gives_code, gives_all, gives_paired, EachPair, gives_each, without_has, without_from, selects}
 use Rattle.monitor_step.proofs.Reuse.{SameReadings}
 
 -- what drawing asks of a book

@@ -21,13 +21,12 @@ use Rattle.value_codes.proofs.Lookups.{code_reads}
 use Rattle.monitor_step.specs.Drawn.{spelled}
 use Rattle.monitor_step.specs.Operations.{SameOutside}
 use Rattle.monitor_step.specs.Stands.{StandsFor, IsPlan, AreTexts, ToldByTrees}
-use Rattle.monitor_step.proofs.Bits.{spell, halves, digit, at_most, same_digit}
+use Rattle.monitor_step.proofs.Bits.{spell, halves, at_most, same_digit}
 use Rattle.monitor_step.proofs.Blocks.{value_same, level_cases}
 use Rattle.monitor_step.proofs.Books.{IsSound, sound}
 use Rattle.monitor_step.proofs.Reuse.{within}
 use Rattle.monitor_step.proofs.Told.{told_by_trees}
 use Rattle.monitor_step.proofs.Exact.{selects_exist}
-use Rattle.std.proofs.lemmas.Option.{slice_get_within}
 
 -- a tree with the code set in the block
 abbrev pub IsRestricted : ℕ → ℕ → ℕ → Tree → Tree → Type 0

@@ -1,6 +1,6 @@
 -- One event keeps what the monitor stands for.
 use Rattle.std.proofs.Common.{◌≡◌, ◌≢◌, ℕ, zero, suc, ◌+◌, ◌-◌, ◌*◌, ◌^◌, ◌<◌, ◌≤◌, ◌↔◌, refl, sym, ap, ◌∙◌, subst, arith, List, [], length, Bool, true, false, ◌||◌, not, Option, Some, None, IsTrue}
-use Rattle.std.specs.Prelude.{map, slice_get, IsSomeAnd, unwrap_or, MatchBool, if◌then◌else◌}
+use Rattle.std.specs.Prelude.{map, slice_get, IsSomeAnd, unwrap_or, MatchBool}
 use Rattle.std.proofs.lemmas.Option.{slice_get_within}
 use Rattle.qtl_syntax.specs.Tree.{Text}
 use Rattle.qtl_truth.specs.declared.event.Event.{Event}
@@ -10,7 +10,7 @@ use Rattle.subformulas.specs.declared.table.Kind.TheVariants as kind
 use Rattle.subformulas.specs.declared.table.Sub.{Sub}
 use Rattle.wellformed.specs.CoreTree.{CoreFormula, Atom, Prev}
 use Rattle.subformulas.specs.Assigned.{Texts, put, text_of, Truth}
-use Rattle.subformulas.specs.Table.{children, AreChildren, IsChild, UsesBelow, is_timed}
+use Rattle.subformulas.specs.Table.{children, AreChildren, IsChild, UsesBelow}
 use Rattle.subformulas.specs.Unfolded.{formula_at, formula_with}
 use Rattle.subformulas.specs.Memory.{is_temporal, IsTemporal, Memo, memo_at, Has, arguments, fresh}
 use Rattle.subformulas.specs.Needs.{given, fits, need, needed_by}
@@ -20,7 +20,7 @@ use Rattle.subformulas.proofs.Fresh.{fresh_new}
 use Rattle.subformulas.proofs.Step.{truth_same}
 use Rattle.subformulas.proofs.Needed.{given_is, given_occurs, true_from, matches_from, matched_needed, in_need}
 use Rattle.subformulas.proofs.Unfold.{children_at, unfolds, by_some, get_some}
-use Rattle.subformulas.proofs.ByNumber.{all_at, none_at}
+use Rattle.subformulas.proofs.ByNumber.{all_at}
 use Rattle.subformulas.proofs.Plain.{plain_truth, need_argument, some_is}
 use Rattle.subformulas.proofs.Decide.{fresh_text}
 use Rattle.subformulas.proofs.Below.{TermsBelow, truth_below, all_below, each_atom_below}
@@ -29,7 +29,7 @@ use Rattle.subformulas.proofs.Below.{AtomBelow}
 use Rattle.node_tree.specs.Tree.{Tree, Zero, One, value}
 use Rattle.value_codes.specs.Pairs.{Pairs, code_of, value_of}
 use Rattle.value_codes.proofs.Lookups.{code_reads, reads_code}
-use Rattle.bdd_ops.specs.declared.op.Op.TheVariants.{And, Or, AndNot, Implies, Iff}
+use Rattle.bdd_ops.specs.declared.op.Op.TheVariants.{Iff}
 use Rattle.bdd_ops.specs.Numbers.{truth_of}
 use Rattle.monitor_step.specs.Books.{reads, IsBook}
 use Rattle.monitor_step.specs.Drawn.{Draws, spelled, readings}

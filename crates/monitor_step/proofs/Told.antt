@@ -1,21 +1,17 @@
 -- What the trees tell apart is told apart; and the trees give the truth at each assignment.
-use Rattle.std.proofs.Common.{◌≡◌, ◌≢◌, ℕ, zero, suc, ◌-◌, ◌*◌, ◌^◌, ◌<◌, ◌≤◌, ◌⊎◌, ◌↔◌, inl, inr, refl, sym, ap, ◌∙◌, subst, arith, List, [], length, Bool, true, false, Option, Some, None, IsTrue}
+use Rattle.std.proofs.Common.{◌≡◌, ◌≢◌, ℕ, zero, suc, ◌-◌, ◌*◌, ◌^◌, ◌<◌, ◌≤◌, ◌⊎◌, ◌↔◌, inl, inr, refl, sym, ap, ◌∙◌, subst, arith, List, [], Bool, true, false, Option, Some, None, IsTrue}
 use Rattle.std.specs.Prelude.{unwrap_or, nat_eq}
 use Rattle.std.proofs.lemmas.Nat.{pow_pos}
 use Rattle.std.proofs.lemmas.Bool.{cases_lt}
 use Rattle.std.proofs.lemmas.Bool.Decides.{eqb_tells}
-use Rattle.std.proofs.lemmas.Option.{slice_get_within}
 use Rattle.qtl_syntax.specs.Tree.{Text}
 use Rattle.qtl_truth.specs.declared.event.Event.{Event}
 use Rattle.subformulas.specs.declared.table.Sub.{Sub}
 use Rattle.subformulas.specs.Assigned.{Texts, put}
-use Rattle.subformulas.specs.Unfolded.{formula_at}
-use Rattle.subformulas.specs.Memory.{IsTemporal, memo_at, fresh, Told, Differ, SameMemory}
+use Rattle.subformulas.specs.Memory.{IsTemporal, fresh, Told, Differ, SameMemory}
 use Rattle.subformulas.proofs.Agree.{same}
-use Rattle.subformulas.proofs.Unfold.{temporal_at, by_some}
-use Rattle.subformulas.proofs.Below.{memo_below, all_below, each_atom_below}
 use Rattle.node_tree.specs.Tree.{Tree, value}
-use Rattle.value_codes.specs.Pairs.{Pairs, code_of, value_of}
+use Rattle.value_codes.specs.Pairs.{Pairs, code_of}
 use Rattle.value_codes.proofs.Lookups.{Tells, code_reads}
 use Rattle.monitor_step.specs.Books.{reads}
 use Rattle.monitor_step.specs.Drawn.{spelled, readings}

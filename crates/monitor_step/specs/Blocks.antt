@@ -1,4 +1,4 @@
--- A block's quantifier as one row a bit, and the cube of codes as literals.
+-- A block's quantifier as one row a bit, and a code as literals.
 use Rattle.std.specs.Prelude.{◌≡◌, ℕ, zero, suc, ◌+◌, ◌/◌, ◌%◌, List, [], ◌∷◌, ◌++◌, Bool, true, false, nat_eq}
 use Rattle.node_tree.specs.Tree.{Tree, IsOrdered, IsReduced, value}
 use Rattle.node_tree.specs.Restrict.{with_bit}
