@@ -18,13 +18,13 @@ use Rattle.bdd_ops.specs.Operates.{AllStay, need_with, Operates}
 use Rattle.bdd_ops.proofs.Growing.{In}
 use Rattle.bdd_ops.proofs.Stages.{never}
 
-in_either : (xs ys : List Tree) (q : Tree) → In (xs ++ ys) q → In xs q ⊎ In ys q
+pub in_either : (xs ys : List Tree) (q : Tree) → In (xs ++ ys) q → In xs q ⊎ In ys q
 in_either xs ys q m = or_cases _ _ (sym (list_any-append (tree_eq q) xs ys) ∙ m)
 
-in_left : (xs ys : List Tree) (q : Tree) → In xs q → In (xs ++ ys) q
+pub in_left : (xs ys : List Tree) (q : Tree) → In xs q → In (xs ++ ys) q
 in_left xs ys q m = list_any-append (tree_eq q) xs ys ∙ ap (λ b. b || is_member tree_eq ys q) m
 
-in_right : (xs ys : List Tree) (q : Tree) → In ys q → In (xs ++ ys) q
+pub in_right : (xs ys : List Tree) (q : Tree) → In ys q → In (xs ++ ys) q
 in_right xs ys q m = list_any-append (tree_eq q) xs ys ∙ (ap (λ b. is_member tree_eq xs q || b) m ∙ or-true _)
 
 -- trees of handles that are the same one by one
@@ -42,7 +42,7 @@ handles_held t (h ∷ hs) s v q m =
     (in_either (branches (tree_of t h)) (branches_of (map (tree_of t) hs)) q m)
 
 -- what stands in one table fits in its room
-fits_all : (t : Table) (made : ℕ) (hs : List ℕ) → IsShared t → IsValid t made → AllValid t hs → size (tree_of t made ∷ map (tree_of t) hs) ≤ t.room
+pub fits_all : (t : Table) (made : ℕ) (hs : List ℕ) → IsShared t → IsValid t made → AllValid t hs → size (tree_of t made ∷ map (tree_of t) hs) ≤ t.room
 fits_all t made hs s vm vs =
     let n = distinct_count-le_from_members (branches (tree_of t made) ++ branches_of (map (tree_of t) hs)) (held t) (λ q m.
     ⊎_elim (λ x. s.closed made vm q x) (λ x. handles_held t hs s vs q x) (in_either (branches (tree_of t made)) (branches_of (map (tree_of t) hs)) q m)) in

@@ -16,7 +16,7 @@ use Rattle.bdd_ops.specs.Numbers.{truth_of}
 use Rattle.bdd_ops.specs.Apply.{map_leaves, apply_tree}
 use Rattle.bdd_ops.specs.declared.literals.Literal.{Literal}
 use Rattle.bdd_ops.specs.Cube.{cube_tree}
-use Rattle.quantify.specs.Quantified.{after_rows}
+use Rattle.operation_rows.specs.Fitting.{block_trees}
 use Rattle.monitor_step.specs.Blocks.{code_literals}
 
 -- the code of the text that an event gives to x through an atom
@@ -41,11 +41,6 @@ atom_tree width books variables e a = if fits a e then cube_tree (event_literals
 abbrev pub applied : Op → Tree → Tree → Tree
 applied op f g = apply_tree (truth_of op) f g
 
--- the trees of the first rows over a block, one a bit
-abbrev pub block_rows : (all : Bool) → (first bits rows : ℕ) → Tree → List Tree
-block_rows all first bits zero f = []
-block_rows all first bits (suc r) f = block_rows all first bits r f ++ after_rows all first bits (suc r) f ∷ []
-
 -- the trees of the rows of a kind in order: f and g are the trees of its children, m the remembered one from before the
 -- event; timed operators have none here
 abbrev pub rows_of_kind : (width : ℕ) → (cube : Atom → Tree) → Kind → (f g m : Tree) → List Tree
@@ -55,8 +50,8 @@ rows_of_kind width cube kind.And f g m = applied And f g ∷ []
 rows_of_kind width cube kind.Or f g m = applied Or f g ∷ []
 rows_of_kind width cube kind.Implies f g m = applied Implies f g ∷ []
 rows_of_kind width cube kind.Iff f g m = applied Iff f g ∷ []
-rows_of_kind width cube (kind.Exists x) f g m = block_rows false (x * width) width width f
-rows_of_kind width cube (kind.Forall x) f g m = block_rows true (x * width) width width f
+rows_of_kind width cube (kind.Exists x) f g m = block_trees false (x * width) width width f
+rows_of_kind width cube (kind.Forall x) f g m = block_trees true (x * width) width width f
 rows_of_kind width cube kind.Since f g m = applied And f m ∷ applied Or g (applied And f m) ∷ []
 rows_of_kind width cube kind.Once f g m = applied Or f m ∷ []
 rows_of_kind width cube kind.Always f g m = applied And f m ∷ []

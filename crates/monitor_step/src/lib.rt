@@ -1,4 +1,8 @@
 //! The step of the monitor: books of codes, drawn trees, and one event at a time.
 #![tactic(auto)]
 
+mod atom_row;
+pub mod codes;
+mod event_rows;
 pub mod laws;
+mod subformula_rows;
