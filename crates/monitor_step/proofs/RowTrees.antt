@@ -28,10 +28,11 @@ use Rattle.bdd_ops.proofs.LevelLaws.{at_level-ordered, at_level-reduced}
 use Rattle.bdd_ops.proofs.Cubes.{cube-value, cube-ordered}
 use Rattle.quantify.specs.Quantified.{connective, quantified, after_rows, merge_of}
 use Rattle.quantify.proofs.Quantifying.{quantified-is, quantified-value}
+use Rattle.operation_rows.specs.Fitting.{block_trees}
 use Rattle.monitor_step.specs.Drawn.{spelled}
 use Rattle.monitor_step.specs.Operations.{IsApplied, IsNot, IsSomeOfBlock, IsEachOfBlock, IsAtomCube, IsRow}
 use Rattle.monitor_step.specs.Blocks.{IsOverBit, AreRows}
-use Rattle.monitor_step.specs.Rows.{event_code, block_literals, event_literals, atom_tree, applied, block_rows, rows_of_kind, result_of}
+use Rattle.monitor_step.specs.Rows.{event_code, block_literals, event_literals, atom_tree, applied, rows_of_kind, result_of}
 use Rattle.monitor_step.proofs.Pairing.{by_if}
 use Rattle.monitor_step.proofs.Rows.{and_iff}
 use Rattle.monitor_step.proofs.Blocks.{some_of_block, each_of_block, all_hold-append, code_holds, LevelsBelow, below_append, below_weaken, ascend_append, code_below, code_ascends}
@@ -200,9 +201,9 @@ last_of : (o : Option Tree) (ts : List Tree) (t : Tree) → last_or o (ts ++ t �
 last_of o [] t = refl
 last_of o (u ∷ ts) t = last_of (Some u) ts t
 
-last_row : (all : Bool) (first bits r : ℕ) (f : Tree) → 1 ≤ r → unwrap_or (last_or None (block_rows all first bits r f)) Zero ≡ after_rows all first bits r f
+last_row : (all : Bool) (first bits r : ℕ) (f : Tree) → 1 ≤ r → unwrap_or (last_or None (block_trees all first bits r f)) Zero ≡ after_rows all first bits r f
 last_row all first bits zero f h = absurd (omega arith)
-last_row all first bits (suc r) f h = ap (λ o. unwrap_or o Zero) (last_of None (block_rows all first bits r f) (after_rows all first bits (suc r) f))
+last_row all first bits (suc r) f h = ap (λ o. unwrap_or o Zero) (last_of None (block_trees all first bits r f) (after_rows all first bits (suc r) f))
 
 module _ (width variables : ℕ) (books : ℕ → Pairs) (e : Event) where
   abbrev cube : AtomOf → Tree
@@ -228,9 +229,9 @@ module _ (width variables : ℕ) (books : ℕ → Pairs) (e : Event) where
   row_is some low more kind.Interval f g m u p q r = (applied Or f m, applied_is Or f m p (r refl), applied_is AndNot (applied Or f m) g (applied_diagram Or f m p (r refl)) q)
   row_is some low more _ f g m u p q r = absurd (cc)
 
-  block_diagrams : (all : Bool) (first bits r : ℕ) (f : Tree) → IsDiagram f → AllByRecursion IsDiagram (block_rows all first bits r f)
+  block_diagrams : (all : Bool) (first bits r : ℕ) (f : Tree) → IsDiagram f → AllByRecursion IsDiagram (block_trees all first bits r f)
   block_diagrams all first bits zero f p = tt
-  block_diagrams all first bits (suc r) f p = with_last (block_rows all first bits r f) (after_rows all first bits (suc r) f) (block_diagrams all first bits r f p) (after_rows_diagram all first bits (suc r) f p)
+  block_diagrams all first bits (suc r) f p = with_last (block_trees all first bits r f) (after_rows all first bits (suc r) f) (block_diagrams all first bits r f p) (after_rows_diagram all first bits (suc r) f p)
 
   -- the tree of each row is ordered and reduced
   pub rows_diagrams : (k : Kind) (f g m : Tree) → IsDiagram f → IsDiagram g → (IsTrue (is_temporal k) → IsDiagram m) → AllByRecursion IsDiagram (rows_of_kind width (atom_tree width books variables e) k f g m)
