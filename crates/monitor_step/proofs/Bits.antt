@@ -1,5 +1,5 @@
 -- Any code can be spelled in a block, the other bits staying.
-use Rattle.std.proofs.Common.{◌≡◌, ◌≢◌, ℕ, zero, suc, ◌+◌, ◌*◌, ◌^◌, ◌<◌, ◌≤◌, ◌⊎◌, inl, inr, ⊎_elim, refl, sym, ap, ◌∙◌, arith, List, [], ◌∷◌, Bool, true, false}
+use Rattle.std.proofs.Common.{◌≡◌, ◌≢◌, ℕ, zero, suc, ◌+◌, ◌*◌, ◌^◌, ◌<◌, ◌≤◌, ◌⊎◌, inl, inr, ⊎_elim, refl, sym, ap, ◌∙◌, arith, List, Bool, true, false}
 use Rattle.std.specs.Prelude.{if◌then◌else◌}
 use Rattle.std.proofs.Math.Nat.{two-pow-succ, mul-le-mul_right}
 use Rattle.std.proofs.lemmas.Bool.{cases_order}
@@ -33,6 +33,12 @@ halves (suc c) = next (halves c)
 pub at_most : (b : Bool) → digit b ≤ 1
 at_most true = omega arith
 at_most false = omega arith
+
+pub same_digit : (b d : Bool) (s h : ℕ) → 2 * s + digit b ≡ 2 * h + digit d → (s ≡ h) × (b ≡ d)
+same_digit true true s h e = (omega arith, refl)
+same_digit false false s h e = (omega arith, refl)
+same_digit true false s h e = absurd (omega arith)
+same_digit false true s h e = absurd (omega arith)
 
 -- some bits spell the code in the block and are the same elsewhere
 pub spell : (first n c : ℕ) (bits : List Bool) → c < 2 ^ n → (other : List Bool) × SameOutside first n bits other × (spelled other first n ≡ c)

@@ -21,23 +21,17 @@ use Rattle.value_codes.proofs.Lookups.{code_reads}
 use Rattle.monitor_step.specs.Drawn.{spelled}
 use Rattle.monitor_step.specs.Operations.{SameOutside}
 use Rattle.monitor_step.specs.Stands.{StandsFor, IsPlan, AreTexts, ToldByTrees}
-use Rattle.monitor_step.proofs.Bits.{spell, halves, digit, at_most}
+use Rattle.monitor_step.proofs.Bits.{spell, halves, at_most, same_digit}
 use Rattle.monitor_step.proofs.Blocks.{value_same, level_cases}
 use Rattle.monitor_step.proofs.Books.{IsSound, sound}
+use Rattle.monitor_step.proofs.Reuse.{within}
 use Rattle.monitor_step.proofs.Told.{told_by_trees}
 use Rattle.monitor_step.proofs.Exact.{selects_exist}
-use Rattle.std.proofs.lemmas.Option.{slice_get_within}
 
 -- a tree with the code set in the block
 abbrev pub IsRestricted : ℕ → ℕ → ℕ → Tree → Tree → Type 0
 IsRestricted first n c t result =
     IsOrdered result × IsReduced result × ((bits : List Bool) (other : List Bool) → SameOutside first n bits other → spelled other first n ≡ c → value result bits ≡ value t other)
-
-same_digit : (b d : Bool) (s h : ℕ) → 2 * s + digit b ≡ 2 * h + digit d → (s ≡ h) × (b ≡ d)
-same_digit true true s h e = (omega arith, refl)
-same_digit false false s h e = (omega arith, refl)
-same_digit true false s h e = absurd (omega arith)
-same_digit false true s h e = absurd (omega arith)
 
 -- other bits in a block of n + 1: those of a block of n, and then the last one
 pub restricted : (first n c : ℕ) (t : Tree) → c < 2 ^ n → IsOrdered t → IsReduced t → (result : Tree) × IsRestricted first n c t result
@@ -124,13 +118,6 @@ module _ (bits variables : ℕ) (subs : List Sub) (log : List Event) (i : ℕ) (
           ⊎_elim (λ (b, other, s, e, f, n'). inl (suc n, b, other, t, s, e, f, n')) (λ same. inr (pick all (λ b other t' s e f. same b other s e f)))
           (one_tree_tells (x * bits) bits c (2 ^ bits - 1) (memory (suc n)) p ones d.ordered d.reduced)
 
-  within : (k : ℕ) → IsTemporal subs k → k ≤ length subs
-  within k t = by_place (slice_get subs (k - 1)) refl t.1
-    where
-      by_place : (o : Option Sub) → slice_get subs (k - 1) ≡ o → IsSomeAnd o (λ s. IsTrue (is_temporal s.kind)) → k ≤ length subs
-      by_place None e h = absurd h
-      by_place (Some s) e h = let q = slice_get_within subs (k - 1) s e in omega arith
-
   told_cases : (t : Text) → Told subs log x i t ⊎ (¬ Told subs log x i t)
   told_cases t = by_code (code_of (books x) t) refl
     where
@@ -143,7 +130,7 @@ module _ (bits variables : ℕ) (subs : List Sub) (log : List Event) (i : ℕ) (
           let same = told_by_trees bits variables subs log plan i books all_sound memory stands.memory_is x low t c e in
           let l = here.below c t (code_reads (books x) t c here.paired e) in
           ⊎_elim (λ p. inl (same.0 p))
-          (λ none. inr (λ h. let (k, b, other, t', s, f, g, n) = same.1 h in n (none k b other (within k t') t' s f g)))
+          (λ none. inr (λ h. let (k, b, other, t', s, f, g, n) = same.1 h in n (none k b other (within subs k t') t' s f g)))
           (below c (omega arith) (length subs))
 
   -- of each live monitor the texts that are told apart are a list

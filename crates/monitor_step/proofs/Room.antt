@@ -10,16 +10,12 @@ use Rattle.subformulas.specs.Memory.{Has}
 use Rattle.subformulas.specs.Needs.{unrepeated_after, unrepeated, code_need}
 use Rattle.subformulas.proofs.Alike.{has_right}
 use Rattle.subformulas.proofs.Needed.{any_cons, unrepeated_has}
-use Rattle.subformulas.proofs.Plain.{from_unrepeated}
+use Rattle.subformulas.proofs.Plain.{has_cases, from_unrepeated}
 use Rattle.value_codes.specs.Pairs.{Pairs, code_of, value_of, IsLeastFree, IsPaired}
 use Rattle.value_codes.proofs.Lookups.{Tells, texts_tell, some_none}
+use Rattle.monitor_step.specs.Serving.{AllApart}
 use Rattle.monitor_step.specs.Books.{Gives, keep, without_code, free_count, IsNextBook}
 use Rattle.monitor_step.proofs.Pairing.{any_has, by_if, paired_kept, code_kept, without_from}
-
--- no text stands twice
-abbrev pub AllApart : List Text → Type 0
-AllApart [] = Unit {0}
-AllApart (t ∷ ts) = (¬ Has ts t) × AllApart ts
 
 remove : Text → List Text → List Text
 remove x [] = []
@@ -47,14 +43,9 @@ no_longer (x ∷ xs) ys a h =
     let f = no_longer xs (remove x ys) a.1 (λ t p. r.1 t (h t (inr p)) (λ e. a.0 (subst (Has xs) (sym e) p))) in
     omega arith
 
-apart_append : (xs ys : List Text) → AllApart xs → AllApart ys → ((t : Text) → Has xs t → ¬ Has ys t) → AllApart (xs ++ ys)
+pub apart_append : (xs ys : List Text) → AllApart xs → AllApart ys → ((t : Text) → Has xs t → ¬ Has ys t) → AllApart (xs ++ ys)
 apart_append [] ys a b n = b
-apart_append (x ∷ xs) ys a b n = (λ h. ⊎_elim a.0 (n x (inl refl)) (split xs ys x h), apart_append xs ys a.1 b (λ t p. n t (inr p)))
-  where
-    split : (xs ys : List Text) (t : Text) → Has (xs ++ ys) t → Has xs t ⊎ Has ys t
-    split [] ys t h = inr h
-    split (u ∷ xs) ys t (inl e) = inl (inl e)
-    split (u ∷ xs) ys t (inr h) = ⊎_elim (λ p. inl (inr p)) (λ p. inr p) (split xs ys t h)
+apart_append (x ∷ xs) ys a b n = (λ h. ⊎_elim a.0 (n x (inl refl)) (has_cases xs ys x h), apart_append xs ys a.1 b (λ t p. n t (inr p)))
 
 unseen : (seen ts : List Text) (a : Text) → Has (unrepeated_after seen ts) a → list_any (bytes_eq a) seen ≡ false
 unseen seen [] a h = absurd h
@@ -80,7 +71,7 @@ unrepeated_apart_after seen (t ∷ ts) =
 pub unrepeated_apart : (ts : List Text) → AllApart (unrepeated ts)
 unrepeated_apart ts = unrepeated_apart_after [] ts
 
-without_apart : (book : Pairs) (ts : List Text) → AllApart ts → AllApart (without_code book ts)
+pub without_apart : (book : Pairs) (ts : List Text) → AllApart ts → AllApart (without_code book ts)
 without_apart book [] a = tt
 without_apart book (t ∷ ts) a = by_if AllApart (is_some (code_of book t)) (without_code book ts) (t ∷ without_code book ts) (without_apart book ts a.1) (λ h. a.0 (without_from book ts t h).0, without_apart book ts a.1)
 
@@ -105,11 +96,11 @@ unfolding texts_of
 texts_apart [] h = tt
 texts_apart (p ∷ book) h = (λ q. has_coded book p.0 q h.0, texts_apart book h.2)
 
-any_from : (ts : List Text) (t : Text) → list_any (bytes_eq t) ts ≡ true → Has ts t
+pub any_from : (ts : List Text) (t : Text) → list_any (bytes_eq t) ts ≡ true → Has ts t
 any_from [] t h = absurd (cc)
 any_from (u ∷ ts) t h = ⊎_elim (λ e. inl e) (λ k. inr (any_from ts t k)) (any_cons t u ts h)
 
-kept_in : (ts : List Text) (book : Pairs) (t : Text) → Has (texts_of (keep ts book)) t → Has ts t
+pub kept_in : (ts : List Text) (book : Pairs) (t : Text) → Has (texts_of (keep ts book)) t → Has ts t
 unfolding texts_of
 kept_in ts [] t h = absurd h
 kept_in ts (p ∷ book) t h = by_test (list_any (bytes_eq p.0) ts) refl (kept_in ts book t) h
@@ -194,16 +185,11 @@ next_exists bits told needed before a paired l = by_room (nat_lt (free_count bit
         let m = no_longer (texts_of kept ++ new) (unrepeated (told ++ needed))
         (apart_append (texts_of kept) new (texts_apart kept (paired_kept (told ++ needed) before paired)) new_apart
         (λ t p q. has_coded kept t p (code_kept (told ++ needed) before t (without_from before needed t q).1)))
-        (λ t p. unrepeated_has (told ++ needed) t (either_has kept t (split (texts_of kept) new t p))) in
+        (λ t p. unrepeated_has (told ++ needed) t (either_has kept t (has_cases (texts_of kept) new t p))) in
         let x = length-append (texts_of kept) new in
         let y = length-texts kept in
         gives_exist bits new kept new_apart (λ t q. code_kept (told ++ needed) before t (without_from before needed t q).1) (λ one. omega arith)
       where
-        split : (xs ys : List Text) (t : Text) → Has (xs ++ ys) t → Has xs t ⊎ Has ys t
-        split [] ys t h = inr h
-        split (u ∷ xs) ys t (inl e) = inl (inl e)
-        split (u ∷ xs) ys t (inr h) = ⊎_elim (λ p. inl (inr p)) (λ p. inr p) (split xs ys t h)
-
         either_has : (kept : Pairs) (t : Text) → Has (texts_of (keep (told ++ needed) before)) t ⊎ Has new t → Has (told ++ needed) t
         either_has kept t (inl p) = kept_in (told ++ needed) before t p
         either_has kept t (inr q) = has_right told needed t (without_from before needed t q).0
