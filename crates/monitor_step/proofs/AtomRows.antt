@@ -1,23 +1,39 @@
 -- The literals of an atom's row.
-use Rattle.std.proofs.Common.{◌≡◌, ℕ, zero, suc, ◌+◌, ◌-◌, ◌*◌, ◌/◌, ◌%◌, ◌<◌, ◌≤◌, refl, sym, ap, ◌∙◌, subst, arith, List, [], ◌∷◌, ◌++◌, length, length-append, append-assoc, append-nil, Bool, true, false, Some, None, Option, add-one}
-use Rattle.std.specs.Prelude.{nat_eq, if◌then◌else◌, slice_get, slice_index_or}
+use Rattle.std.proofs.Common.{◌≡◌, ℕ, zero, suc, ◌+◌, ◌-◌, ◌*◌, ◌/◌, ◌%◌, ◌<◌, ◌≤◌, refl, sym, ap, ◌∙◌, subst, arith, List, [], ◌∷◌, ◌++◌, length, length-append, append_assoc, append-nil, Bool, true, false, Some, None, Option, add-one}
+use Rattle.std.proofs.Math.Nat.{mul_comm, mul-suc, mul-le-mul_right}
+use Rattle.monitor_step.specs.Serving.{pairs_at}
+use Rattle.std.specs.Prelude.{Result, Ok, Err, IsErrAnd, get_or, nat_eq, if◌then◌else◌, slice_get, slice_index_or}
 use Rattle.std.specs.Option.{option_and_then}
 use Rattle.qtl_syntax.specs.Tree.{Text}
 use Rattle.qtl_truth.specs.declared.event.Event.{Event}
 use Rattle.qtl_truth.specs.declared.matching.Place.{Place}
 use Rattle.qtl_truth.specs.declared.numbered_atom.Atom.{Atom}
-use Rattle.qtl_truth.specs.Matching.{arg_at, ArgsBelow}
+use Rattle.qtl_truth.specs.Matching.{arg_at, ArgsBelow, Binds, IsMatch}
+use Rattle.node_tree.specs.Tree.{Tree, Zero}
+use Rattle.node_table.specs.Table.{Table}
+use Rattle.bdd_ops.specs.Cube.{cube_tree}
+use Rattle.operation_rows.specs.declared.rows.RowFull.{RowFull}
+use Rattle.operation_rows.specs.Fitting.{MakesRows}
+use Rattle.subformulas.proofs.Binding.{no_binding, binding_fits}
+use Rattle.monitor_step.specs.Answers.{AnswersRows}
+use Rattle.monitor_step.specs.declared.subformula_rows.RowEnd.{RowEnd}
+use Rattle.monitor_step.specs.declared.subformula_rows.RowEnd.TheVariants as row_end
 use Rattle.bdd_ops.specs.declared.literals.Literal.{Literal}
-use Rattle.value_codes.specs.Pairs.{Pairs}
+use Rattle.value_codes.specs.Pairs.{Pairs, Contents}
 use Rattle.monitor_step.specs.Blocks.{code_literals, literal_at}
-use Rattle.monitor_step.specs.Rows.{event_code, block_literals, event_literals}
+use Rattle.monitor_step.specs.Rows.{event_code, block_literals, event_literals, atom_tree}
 
 -- one bit more of a code
+bit_more : (first n c : ℕ) (old more : List Literal) → more ≡ old ++ code_literals first n (c / 2) →
+    more ++ literal_at (first + n) (nat_eq (c % 2) 1) ∷ [] ≡ old ++ code_literals first (suc n) c
+bit_more first n c old more e =
+    ap (λ ls. ls ++ literal_at (first + n) (nat_eq (c % 2) 1) ∷ []) e ∙ append_assoc old (code_literals first n (c / 2)) (literal_at (first + n) (nat_eq (c % 2) 1) ∷ [])
+
 pub code_more : (first bits c : ℕ) (old more : List Literal) → 1 ≤ bits → more ≡ old ++ code_literals first (bits - 1) (c / 2) →
     more ++ literal_at (first + (bits - 1)) (nat_eq (c % 2) 1) ∷ [] ≡ old ++ code_literals first bits c
-code_more first zero c old more l e = absurd (omega (arith, l))
-code_more first (suc n) c old more l e =
-    ap (λ ls. ls ++ literal_at (first + n) (nat_eq (c % 2) 1) ∷ []) e ∙ append-assoc old (code_literals first n (c / 2)) (literal_at (first + n) (nat_eq (c % 2) 1) ∷ [])
+code_more first bits c old more l e =
+    let s : suc (bits - 1) ≡ bits = omega (arith, l) in
+    subst (λ (n : ℕ). more ++ literal_at (first + (bits - 1)) (nat_eq (c % 2) 1) ∷ [] ≡ old ++ code_literals first n c) s (bit_more first (bits - 1) c old more e)
 
 pub length_code : (first n c : ℕ) → length (code_literals first n c) ≡ n
 length_code first zero c = refl
@@ -36,3 +52,36 @@ pub literals_more : (width : ℕ) (books : ℕ → Pairs) (x : ℕ) (e : Event) 
     new ≡ old ++ block_literals width x (event_code books e a x) → new ≡ event_literals width books (x + 1) e a
 literals_more width books x e a old new i n =
     n ∙ ap (λ ls. ls ++ block_literals width x (event_code books e a x)) i ∙ ap (λ (y : ℕ). event_literals width books y e a) (sym (add-one x))
+
+-- one block more
+pub product_more : (x n : ℕ) → (x + 1) * n ≡ x * n + n
+product_more x n = rw add-one (mul_comm (suc x) n ∙ mul-suc n x ∙ ap (λ (m : ℕ). m + n) (mul_comm n x))
+
+-- where x is below n, there is room for a block more
+pub product_room : (x n bits : ℕ) → x < n → x * bits + bits ≤ n * bits
+product_room x n bits l = let m = mul-le-mul_right bits (let s : x + 1 ≤ n = omega (arith, l) in s) in let e = product_more x bits in omega (arith, m, e)
+
+-- the pairs of one of the books
+pub pairs_here : (books : List Contents) (x : ℕ) (book : Contents) → x < length books → book ≡ get_or books x book → pairs_at books x ≡ book.pairs
+pairs_here [] x book l e = absurd (omega (arith, l))
+pairs_here (b ∷ books) zero book l e = ap (λ c. c.pairs) (sym e)
+pairs_here (b ∷ books) (suc x) book l e = pairs_here books x book (omega (arith, l)) e
+
+-- an atom that doesn't fit the event has the tree zero
+pub unmatched : (width : ℕ) (books : ℕ → Pairs) (variables : ℕ) (e : Event) (a : Atom) → IsMatch a e None → atom_tree width books variables e a ≡ Zero
+unmatched width books variables e a h = rw (no_binding a e h) refl
+
+-- one that fits it has the cube of the codes
+pub matched : (width : ℕ) (books : ℕ → Pairs) (variables : ℕ) (e : Event) (a : Atom) (b : List Place) → Binds a e b →
+    atom_tree width books variables e a ≡ cube_tree (event_literals width books variables e a)
+matched width books variables e a b h = rw (binding_fits a e b h) refl
+
+-- an answer over a tree that is another one's name
+pub same_rows : (t u : Tree) (roots : List ℕ) (old new : Table) (r : Result ℕ RowFull) → t ≡ u → MakesRows (t ∷ []) t roots old new r → MakesRows (u ∷ []) u roots old new r
+same_rows t u roots old new r e m = subst (λ x. MakesRows (x ∷ []) x roots old new r) e m
+
+-- a refused row is passed on
+pub passed_full : (rows : List Tree) (made : Tree) (roots : List ℕ) (old new : Table) (full : RowFull) (r : Result ℕ RowEnd) → IsErrAnd r (λ x. x ≡ row_end.Full full) →
+    MakesRows rows made roots old new (Err full) → AnswersRows rows made roots old new r
+passed_full rows made roots old new full (Ok h) e m = absurd e
+passed_full rows made roots old new full (Err x) e m = subst (λ y. AnswersRows rows made roots old new (Err y)) (sym e) m

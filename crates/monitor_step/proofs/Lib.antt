@@ -19,3 +19,4 @@ pub mod Stands
 pub mod Verdict
 pub mod Decided
 pub mod AtomRows
+pub mod KindRows

@@ -76,6 +76,7 @@ fn add_codes(
     literals: &mut Vec<Literal>,
 ) -> Result<(), AllocError>
     requires binds { Binds atom.now event.now binding.now }
+    requires few_books { length books.now ≤ 64 }
     requires levels { length books.now * bits ≤ 65536 }
     requires empty { literals.old.items ≡ [] }
     ensures items { OnOk result (literals.new.items ≡ event_literals bits (pairs_at books.now) (length books.now) event.now atom.now) }
@@ -104,6 +105,7 @@ pub fn atom_row<L: Ledger>(
     steps: &mut Steps<L>,
 ) -> Result<Handle, RowEnd>
     requires few { length atom.now.terms < 4294967296 }
+    requires few_books { length books.now ≤ 64 }
     requires levels { length books.now * bits ≤ 65536 }
     requires roots { AllValid store.old.table roots.now }
     ensures made { let t = atom_tree bits (pairs_at books.now) (length books.now) event.now atom.now in AnswersRows (t ∷ []) t roots.now store.old.table store.new.table result }

@@ -1,6 +1,7 @@
 //! The rows of all subformulas at an event.
 
-ghost use Rattle.std.specs.Prelude.{◌≡◌, ◌+◌, ◌*◌, ◌<◌, ◌≤◌, length, map, take, false, vec_capacity, IsErrOf};
+ghost use Rattle.std.specs.Prelude.{◌≡◌, ◌+◌, ◌-◌, ◌*◌, ◌<◌, ◌≤◌, length, map, take, slice_get, Some, false, vec_capacity, IsErrOf};
+ghost use Rattle.subformulas.specs.Memory.{is_temporal};
 ghost use Rattle.std.specs.List.{AllByRecursion, list_any, sum_by};
 ghost use Rattle.node_table.specs.Table.{tree_of, IsShared};
 ghost use Rattle.node_table.specs.Collects.{AllValid};

@@ -87,6 +87,7 @@ pub fn subformula_rows<L: Ledger>(
     requires few { HasFewTerms kind.now }
     requires uses { UsesBelow (length books.now) kind.now }
     requires some_bits { 1 ≤ bits }
+    requires few_books { length books.now ≤ 64 }
     requires levels { length books.now * bits ≤ 65536 }
     requires left { 1 ≤ children kind.now → Contains roots.now f }
     requires right { 2 ≤ children kind.now → Contains roots.now g }

@@ -1,5 +1,6 @@
 use Rattle.std.proofs.Common.{◌≡◌, ◌∙◌, sym, ap, length, Some, None}
 use Rattle.std.specs.Option.{option_and_then}
+use Rattle.std.proofs.lemmas.Option.{slice_get-get_or}
 use Rattle.qtl_truth.specs.Matching.{arg_at}
 use Rattle.value_codes.specs.Pairs.{code_of}
 use Rattle.subformulas.proofs.Binding.{given_none, given_some}
@@ -19,6 +20,9 @@ bounds-as_slice-arg c =
 pub returns : goal.returns
 returns c =
     let some : arg_at c.args.binding.now c.args.variable ≡ Some c.in_ok-arg.arg = rw c.places.ensures at (sym c.in_ok-arg.ensures) in
+    let args = c.args.event.now.args in
+    let within = arg_below (length args) c.args.binding.now c.args.variable c.in_ok-arg.arg c.requires.within some in
     let read = given_some c.args.atom.now c.args.event.now c.args.binding.now c.args.variable c.in_ok-arg.arg c.requires some in
     let text = rw c.as_slice.ensures at c.index-as_slice-arg.is in
-    c.code_of.ensures.code ∙ sym (ap (option_and_then (code_of c.args.book.now.pairs)) (read ∙ text))
+    let given_text = read ∙ slice_get-get_or args c.in_ok-arg.arg c.index-as_slice-arg.result within ∙ ap (λ u. Some u) (sym text) in
+    c.code_of.ensures.code ∙ sym (ap (option_and_then (code_of c.args.book.now.pairs)) given_text)
