@@ -24,7 +24,7 @@ use Rattle.subformulas.specs.Needs.{fits, given, or_empty}
 use Rattle.subformulas.specs.Table.{AreBelow}
 
 -- the variable stands among the terms
-abbrev pub occurs : ℕ → List AtomTerm → Bool
+abbrev occurs : ℕ → List AtomTerm → Bool
 occurs x [] = false
 occurs x (Variable y ∷ ts) = nat_eq x y || occurs x ts
 occurs x (Constant c ∷ ts) = occurs x ts

@@ -2,5 +2,5 @@ pub mod Rows
 pub mod Sound
 pub mod Unfolds
 pub mod Binding
-pub mod Entries
-pub mod Unrepeated
+mod Entries
+mod Unrepeated
