@@ -1,5 +1,5 @@
 -- What a binding of an atom tells of the texts that the event gives to the variables.
-use Rattle.std.proofs.Common.{◌≡◌, ℕ, zero, suc, ◌+◌, ◌<◌, ◌≤◌, ◌⊎◌, List, [], ◌∷◌, ◌++◌, map, length, Option, Some, None, Bool, true, false, refl, ap, sym, ◌∙◌, arith}
+use Rattle.std.proofs.Common.{◌≡◌, ℕ, zero, suc, ◌+◌, ◌<◌, ◌≤◌, List, [], ◌∷◌, ◌++◌, map, length, Option, Some, None, Bool, true, false, refl, ap, sym, ◌∙◌, arith}
 use Rattle.std.specs.Prelude.{slice_get, nat_eq, if◌then◌else◌, ◌||◌, ◌&&◌, bytes_eq}
 use Rattle.std.specs.List.{AllByRecursion, IsDistinct, list_any}
 use Rattle.std.specs.Cmp.Lexicographic.{pointwise}
@@ -24,7 +24,7 @@ use Rattle.subformulas.specs.Needs.{fits, given, or_empty}
 use Rattle.subformulas.specs.Table.{AreBelow}
 
 -- the variable stands among the terms
-abbrev pub occurs : ℕ → List AtomTerm → Bool
+abbrev occurs : ℕ → List AtomTerm → Bool
 occurs x [] = false
 occurs x (Variable y ∷ ts) = nat_eq x y || occurs x ts
 occurs x (Constant c ∷ ts) = occurs x ts

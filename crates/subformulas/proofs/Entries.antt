@@ -1,7 +1,7 @@
 -- Entries of a list of needs: where a new one goes, and what it adds.
 use Rattle.std.proofs.Common.{◌≡◌, ℕ, ◌+◌, ◌<◌, ◌≤◌, List, [], ◌∷◌, ◌++◌, take, drop, length, get_or, Option, Some, None, Bool, true, false, refl, ap, sym, ◌∙◌, append-nil, add-one, drop-cons, arith}
 use Rattle.std.specs.Prelude.{slice_get, slice_index_or, nat_eq, if◌then◌else◌, ◌||◌, bytes_eq}
-use Rattle.std.specs.List.{AllByRecursion, IsDistinct, list_any, flat_map, insert}
+use Rattle.std.specs.List.{AllByRecursion, IsDistinct, list_any, insert}
 use Rattle.std.proofs.lemmas.Bool.Decides.{nat_tests}
 use Rattle.std.proofs.lemmas.List.{get_or_default, take-append-drop}
 use Rattle.std.proofs.lemmas.List.Concat.{flat_map-append}

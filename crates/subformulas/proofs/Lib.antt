@@ -15,5 +15,5 @@ pub mod Step
 pub mod Unfold
 pub mod Unfolds
 pub mod Binding
-pub mod Entries
-pub mod Unrepeated
+mod Entries
+mod Unrepeated

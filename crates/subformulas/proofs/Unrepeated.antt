@@ -7,7 +7,7 @@ use Rattle.subformulas.specs.NeedList.{with_text, with_texts}
 use Rattle.subformulas.specs.Needs.{unrepeated_after, unrepeated}
 
 -- whether the text is among others
-abbrev pub among : Text → List Text → Bool
+abbrev among : Text → List Text → Bool
 among t ts = list_any (bytes_eq t) ts
 
 exchange : (b a c : Bool) → ((b || a) || c) ≡ (a || (b || c))

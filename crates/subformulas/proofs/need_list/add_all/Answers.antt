@@ -1,4 +1,4 @@
-use Rattle.std.proofs.Common.{◌≡◌, ℕ, zero, suc, ◌+◌, ◌-◌, ◌*◌, ◌<◌, ◌≤◌, List, [], ◌∷◌, ◌++◌, take, length, get_or, Some, false, true, refl, ap, sym, ◌∙◌, subst, append-nil, add-one, arith}
+use Rattle.std.proofs.Common.{◌≡◌, ℕ, zero, suc, ◌+◌, ◌-◌, ◌*◌, ◌<◌, ◌≤◌, List, [], ◌∷◌, ◌++◌, take, length, get_or, Some, false, true, ap, sym, ◌∙◌, subst, append-nil, add-one, arith}
 use Rattle.std.specs.Prelude.{slice_get}
 use Rattle.std.specs.List.{AllByRecursion, flat_map}
 use Rattle.std.proofs.Math.Nat.{mul-le-mul_left, mul-suc}
@@ -9,7 +9,7 @@ use Rattle.qtl_truth.specs.declared.event.Event.{Event}
 use Rattle.subformulas.specs.declared.table.Sub.{Sub}
 use Rattle.subformulas.specs.NeedList.{HasFewVariables, with_texts}
 use Rattle.subformulas.specs.Needs.{need, needed_by, unrepeated}
-use Rattle.subformulas.specs.Table.{UsesBelow}
+use Rattle.subformulas.specs.Table.{HasFewTerms, UsesBelow}
 use Rattle.subformulas.proofs.Unrepeated.{unrepeated_more}
 use Rattle.subformulas.proofs.need_list.add_all.Goals as goal
 
@@ -41,6 +41,9 @@ enough v k n entries before now few less room grows =
     let all = mul-le-mul_left v next in
     let one = once_more v k in
     omega (arith, all, one, few, room, grows)
+
+pub add_needed-requires-clause-few : goal.add_needed-requires-clause-few
+add_needed-requires-clause-few c = all_at (λ s. HasFewTerms s.kind) c.args.plan.now.subs _ c.sub.result.now c.requires.few c.sub.ensures
 
 pub returns-in_err-add_needed-clause-room : goal.returns-in_err-add_needed-clause-room
 returns-in_err-add_needed-clause-room c = λ room all_few.

@@ -1,11 +1,11 @@
-use Rattle.std.proofs.Common.{◌≡◌, ℕ, ◌<◌, ◌+◌, ◌≤◌, List, [], length, refl, ap, sym, ◌∙◌, arith}
+use Rattle.std.proofs.Common.{◌≡◌, ℕ, ◌<◌, ◌≤◌, List, [], length, refl, ap, ◌∙◌, arith}
 use Rattle.std.specs.Prelude.{if◌then◌else◌}
 use Rattle.std.specs.List.{AllByRecursion}
 use Rattle.std.proofs.lemmas.Result.{on_ok_weaker}
 use Rattle.qtl_truth.specs.declared.event.Event.{Event}
 use Rattle.qtl_truth.specs.declared.matching.Place.{Place}
 use Rattle.qtl_truth.specs.declared.numbered_atom.Atom.{Atom}
-use Rattle.qtl_truth.specs.Matching.{Binds, place_variables, variables_of}
+use Rattle.qtl_truth.specs.Matching.{Binds, place_variables}
 use Rattle.qtl_truth.proofs.Places.{length_variables}
 use Rattle.subformulas.specs.NeedList.{entries_of, texts_for, with_texts}
 use Rattle.subformulas.specs.Needs.{as_list, fits, given}
