@@ -1,6 +1,7 @@
 //! Quantification over the bits of a block, the last bit first.
 
-ghost use Rattle.std.specs.Prelude.{◌≡◌, ◌+◌, ◌*◌, ◌<◌, ◌≤◌, ℕ};
+ghost use Rattle.std.specs.Prelude.{◌≡◌, ◌+◌, ◌*◌, ◌<◌, ◌≤◌, ◌⊎◌, ℕ, IsTrue};
+ghost use Rattle.node_tree.specs.Tree.{Zero, One};
 ghost use Rattle.node_table.specs.Table.{tree_of, IsValid};
 ghost use Rattle.node_table.specs.Collects.{AllValid};
 ghost use Rattle.bdd_ops.specs.Applied.{IsSound};
@@ -11,7 +12,7 @@ ghost use Rattle.quantify.specs.Rows.{Quantifies};
 use crate::bit::merge_of;
 use bdd_ops::{NodesFull, Store, change_level};
 use mon_base::Steps;
-use node_table::{Block, Handle};
+use node_table::{Block, Handle, NodeTable};
 use std::sync::ledger::Ledger;
 
 /// The row, counted from 1, at which the branches of its result, of the row before, of the operand and of the roots
@@ -28,6 +29,13 @@ fn row_level(block: Block, done: u8) -> u16
     ensures { result + done + 1 ≡ block.first + block.bits }
 {
     (block.first as u32 + (block.bits as u32 - done as u32 - 1)) as u16
+}
+
+/// Whether a handle is one of the leaves.
+fn is_leaf(table: &NodeTable, h: Handle) -> bool
+    ensures { IsTrue result → (tree_of table.now h ≡ Zero) ⊎ (tree_of table.now h ≡ One) }
+{
+    h == table.zero() || h == table.one()
 }
 
 /// The rows after so many.
@@ -53,6 +61,10 @@ fn rows_from<L: Ledger>(
 {
     let _held = store.live();
     if done == block.bits {
+        return Ok(current);
+    }
+    // a leaf has no bit left to take
+    if is_leaf(store.table(), current) {
         return Ok(current);
     }
     let level = row_level(block, done);

@@ -6,8 +6,9 @@ use Rattle.qtl_truth.specs.declared.event.Event.{Event}
 use Rattle.subformulas.specs.Assigned.{Texts, texts_in, put, Truth}
 use Rattle.subformulas.specs.Memory.{Has, arguments, fresh, Told, SameMemory, IsPlain}
 use Rattle.subformulas.specs.Needs.{need}
-use Rattle.subformulas.specs.Table.{IsTable, UsesBelow, is_timed}
+use Rattle.subformulas.specs.Table.{Table, IsTable, UsesBelow, is_timed, IsSound}
 use Rattle.subformulas.specs.Unfolded.{formula_at, formula_with}
+use Rattle.subformulas.specs.declared.table.PlanProp.{PlanProp}
 use Rattle.subformulas.specs.declared.table.Sub.{Sub}
 use Rattle.wellformed.specs.CoreTree.{CoreFormula}
 use Rattle.wellformed.specs.CoreTruth.{TrueCore}
@@ -54,3 +55,9 @@ PlainStays =
 -- truth is decided
 abbrev pub Decided : Type 0
 Decided = (log : List Event) (f : CoreFormula) (nu : Texts) (i : ℕ) → 1 ≤ i → Truth log f nu i ⊎ (¬ Truth log f nu i)
+
+-- truth of a property doesn't depend on the texts of variables
+abbrev pub ClosedAlike : Type 0
+ClosedAlike =
+    (t : Table) (log : List Event) (k : ℕ) (p : PlanProp) (nu nu' : Texts) (i : ℕ) → IsSound t → slice_get t.props k ≡ Some p →
+    Truth log (formula_at t.subs p.root) nu i ↔ Truth log (formula_at t.subs p.root) nu' i

@@ -1,5 +1,5 @@
 -- What holds of the table of each plan.
-use Rattle.std.specs.Prelude.{◌≡◌, ℕ, zero, suc, ◌+◌, ◌<◌, ◌≤◌, List, [], ◌∷◌, length, Bool, true, false}
+use Rattle.std.specs.Prelude.{◌≡◌, ℕ, zero, suc, ◌+◌, ◌<◌, ◌≤◌, List, [], ◌∷◌, length, Bool, true, false, IsTrue}
 use Rattle.std.specs.List.{AllByRecursion}
 use Rattle.qtl_truth.specs.declared.numbered_atom.AtomTerm.{AtomTerm}
 use Rattle.qtl_truth.specs.declared.numbered_atom.AtomTerm.TheVariants.{Variable, Constant}
@@ -8,6 +8,8 @@ use Rattle.subformulas.specs.declared.table.Kind.{Kind}
 use Rattle.subformulas.specs.declared.table.Kind.TheVariants as kind
 use Rattle.subformulas.specs.declared.table.PlanProp.{PlanProp}
 use Rattle.subformulas.specs.declared.table.Sub.{Sub}
+use Rattle.subformulas.specs.Unfolded.{formula_at}
+use Rattle.wellformed.specs.Sound.{is_closed}
 
 -- what a plan holds: the variables, the rows, and the properties with the numbers of their formulas
 pub record Table : Type 0 where
@@ -87,12 +89,18 @@ HasFewTerms _ = Unit {0}
 abbrev pub HasRoot : ℕ → PlanProp → Type 0
 HasRoot n p = (1 ≤ p.root) × (p.root ≤ n)
 
--- what holds of each plan: there is a property, and its root is a row; there are at most 64 variables and 4,096 rows; the
--- children of a row stand before it; its variables are among those of the plan, and its bound is at most 1,048,574
+-- each variable in the formula of a property is bound by a quantifier round it
+abbrev pub IsClosedProp : List Sub → PlanProp → Type 0
+IsClosedProp subs p = IsTrue (is_closed [] (formula_at subs p.root))
+
+-- what holds of each plan: there is a property, its root is a row, and its formula is closed; there are at most 64 variables
+-- and 4,096 rows; the children of a row stand before it; its variables are among those of the plan, and its bound is at most
+-- 1,048,574
 pub record IsSound (t : Table) : Type 0 where
   pub some : 1 ≤ length t.props
   pub few_props : length t.props ≤ 4096
   pub roots : AllByRecursion (HasRoot (length t.subs)) t.props
+  pub closed : AllByRecursion (IsClosedProp t.subs) t.props
   pub few_variables : length t.variables ≤ 64
   pub few_rows : length t.subs ≤ 4096
   pub table : IsTable 0 t.subs

@@ -9,6 +9,7 @@ ghost use Rattle.subformulas.specs.Laws.{
   UntoldIsPlain,
   PlainStays,
   Decided,
+  ClosedAlike,
 };
 
 /// The formula of a number is its kind over the formulas of its children.
@@ -51,4 +52,9 @@ pub fn plain_stays()
 /// Truth is decided.
 pub fn decided()
     ensures { Decided }
+{}
+
+/// Truth of a property doesn't depend on the texts of variables, since each variable is bound by a quantifier round it.
+pub fn closed_alike()
+    ensures { ClosedAlike }
 {}
