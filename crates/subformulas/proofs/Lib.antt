@@ -14,3 +14,6 @@ pub mod Sound
 pub mod Step
 pub mod Unfold
 pub mod Unfolds
+pub mod Binding
+pub mod Entries
+pub mod Unrepeated

@@ -5,3 +5,5 @@ pub mod Assigned
 pub mod Memory
 pub mod Needs
 pub mod Laws
+pub mod NeedList
+pub mod OperationRows

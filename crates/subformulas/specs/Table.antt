@@ -78,6 +78,11 @@ is_timed (kind.AlwaysAtMost n) = true
 is_timed (kind.AlwaysMoreThan n) = true
 is_timed _ = false
 
+-- an atom has fewer than 2^32 terms
+abbrev pub HasFewTerms : Kind → Type 0
+HasFewTerms (kind.Atom a) = length a.terms < 4294967296
+HasFewTerms _ = Unit {0}
+
 -- the root of a property is one of the rows
 abbrev pub HasRoot : ℕ → PlanProp → Type 0
 HasRoot n p = (1 ≤ p.root) × (p.root ≤ n)

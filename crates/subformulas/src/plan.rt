@@ -1,8 +1,9 @@
 //! A plan: the table of subformulas, with the variables and the properties.
-ghost use Rattle.std.specs.Prelude.{◌≡◌, ◌-◌, ◌≤◌, ◌<◌, length, slice_get, Some};
-ghost use Rattle.std.specs.List.{list_any};
+ghost use Rattle.std.specs.Prelude.{◌≡◌, ◌-◌, ◌≤◌, ◌<◌, ◌↔◌, length, slice_get, Some, IsTrue};
+ghost use Rattle.std.specs.List.{AllByRecursion, list_any};
 ghost use Rattle.std.specs.Option.{option_map};
-ghost use Rattle.subformulas.specs.Table.{is_timed, IsSound};
+ghost use Rattle.subformulas.specs.OperationRows.{rows_of};
+ghost use Rattle.subformulas.specs.Table.{is_timed, HasFewTerms, IsSound};
 
 use crate::table::{Kind, PlanProp, Sub};
 use qtl_syntax::Text;
@@ -56,6 +57,24 @@ fn is_timed(kind: &Kind) -> bool
     }
 }
 
+/// How many operation rows the kind has.
+fn rows_of(kind: &Kind, bits: u8) -> u32
+    ensures { result ≡ rows_of kind.now bits }
+{
+    match kind {
+        Kind::True | Kind::False | Kind::Prev => 0,
+        Kind::Atom(_) => 1,
+        Kind::Not | Kind::And | Kind::Or | Kind::Implies | Kind::Iff => 1,
+        Kind::Exists(_) | Kind::Forall(_) => bits as u32,
+        Kind::Once | Kind::Always => 1,
+        Kind::Since | Kind::Interval => 2,
+        Kind::OnceAtMost(_) => 5,
+        Kind::SinceAtMost(_) | Kind::OnceMoreThan(_) => 6,
+        Kind::AlwaysAtMost(_) | Kind::SinceMoreThan(_) => 7,
+        Kind::AlwaysMoreThan(_) => 8,
+    }
+}
+
 /// Whether one of the rows is a timed operator.
 fn has_timed(subs: &[Sub]) -> bool
     ensures { result ≡ list_any (λ s. is_timed s.kind) subs.now }
@@ -66,6 +85,31 @@ fn has_timed(subs: &[Sub]) -> bool
         }
     }
     false
+}
+
+/// More terms than `matches` of `qtl_truth` takes.
+const TERMS: u64 = 4_294_967_296;
+
+/// Whether an atom has fewer than 2^32 terms.
+fn has_few_terms(kind: &Kind) -> bool
+    ensures { IsTrue result ↔ HasFewTerms kind.now }
+{
+    match kind {
+        Kind::Atom(atom) => (atom.terms.len() as u64) < TERMS,
+        _ => true,
+    }
+}
+
+/// Whether each atom has fewer than 2^32 terms.
+fn have_few_terms(subs: &[Sub]) -> bool
+    ensures { IsTrue result ↔ AllByRecursion (λ s. HasFewTerms s.kind) subs.now }
+{
+    for sub in subs {
+        if !has_few_terms(&sub.kind) {
+            return false;
+        }
+    }
+    true
 }
 
 impl Plan {
@@ -84,6 +128,15 @@ impl Plan {
         ensures { slice_get self.now.subs (k - 1) ≡ Some result.now }
     {
         &self.subs.as_slice()[k as usize - 1]
+    }
+
+    /// How many operation rows subformula k, counted from 1, has where a variable has so many bits.
+    pub fn rows(&self, k: u32, bits: u8) -> u32
+        requires from { 1 ≤ k }
+        requires to { k ≤ length self.now.subs }
+        ensures { option_map (λ s. rows_of s.kind bits) (slice_get self.now.subs (k - 1)) ≡ Some result }
+    {
+        rows_of(&self.sub(k).kind, bits)
     }
 
     /// The variables, by number.
@@ -121,5 +174,12 @@ impl Plan {
         ensures { result ≡ list_any (λ s. is_timed s.kind) self.now.subs }
     {
         has_timed(self.subs.as_slice())
+    }
+
+    /// Whether each atom has fewer than 2^32 terms. Of a text of at most 1,048,576 bytes each has.
+    pub fn has_few_terms(&self) -> bool
+        ensures { IsTrue result ↔ AllByRecursion (λ s. HasFewTerms s.kind) self.now.subs }
+    {
+        have_few_terms(self.subs.as_slice())
     }
 }

@@ -7,7 +7,7 @@ use Rattle.qtl_syntax.specs.declared.formula.Bound.{Bound}
 use Rattle.qtl_syntax.specs.declared.formula.Bound.TheVariants.{AtMost, MoreThan}
 use Rattle.qtl_syntax.specs.Tree.{Text}
 use Rattle.subformulas.specs.Numbering.{sub, since_kind, once_kind, always_kind, numbered, numbered_one, numbered_two, all_numbered}
-use Rattle.subformulas.specs.Table.{Table, is_timed}
+use Rattle.subformulas.specs.Table.{Table, HasFewTerms, is_timed}
 use Rattle.subformulas.specs.declared.table.Kind.{Kind}
 use Rattle.subformulas.specs.declared.table.Kind.TheVariants as kind
 use Rattle.subformulas.specs.declared.table.Sub.{Sub}
@@ -15,7 +15,7 @@ use Rattle.wellformed.specs.CoreTree.{CoreFormula, True, False, Atom, Not, And, 
 use Rattle.wellformed.specs.Terms as formula
 use Rattle.wellformed.specs.Timed.{has_timed}
 use Rattle.wellformed.specs.Sound.{nodes}
-use Rattle.untimed_monitor.specs.Stands.{HasFewTerms, IsPlain}
+use Rattle.untimed_monitor.specs.Stands.{IsPlain}
 
 -- a row is a timed operator
 abbrev pub any_timed : List Sub → Bool

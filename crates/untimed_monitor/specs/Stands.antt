@@ -2,18 +2,11 @@
 use Rattle.std.specs.Prelude.{◌≡◌, ℕ, ◌+◌, ◌-◌, ◌<◌, ◌≤◌, List, ◌∷◌, ◌++◌, map, length, Bool, false, Some, get_or, slice_get}
 use Rattle.std.specs.List.{AllByRecursion, list_any}
 use Rattle.qtl_truth.specs.declared.event.Event.{Event}
-use Rattle.subformulas.specs.Table.{Table, is_timed}
+use Rattle.subformulas.specs.Table.{Table, HasFewTerms, is_timed}
 use Rattle.subformulas.specs.Table as table
 use Rattle.subformulas.specs.Unfolded.{formula_at}
-use Rattle.subformulas.specs.declared.table.Kind.{Kind}
-use Rattle.subformulas.specs.declared.table.Kind.TheVariants as kind
 use Rattle.subformulas.specs.declared.table.Sub.{Sub}
 use Rattle.untimed_monitor.specs.Kept.{IsKept, Tells}
-
--- an atom has fewer than 2^32 terms
-abbrev pub HasFewTerms : Kind → Type 0
-HasFewTerms (kind.Atom a) = length a.terms < 4294967296
-HasFewTerms _ = Unit {0}
 
 -- the plan has no variable and no timed operator
 pub record IsPlain (plan : Table) : Type 0 where

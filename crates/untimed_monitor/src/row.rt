@@ -1,9 +1,8 @@
 //! One row of the table at one event.
 ghost use Rattle.std.specs.Prelude.{◌≡◌, ◌<◌, ◌↔◌, ◌&&◌, ◌||◌, [], length, not, false, IsTrue};
 ghost use Rattle.qtl_truth.specs.NumberedAtom.{IsAtomOf};
-ghost use Rattle.subformulas.specs.Table.{is_timed, AreBelow, UsesBelow};
+ghost use Rattle.subformulas.specs.Table.{is_timed, AreBelow, UsesBelow, HasFewTerms};
 ghost use Rattle.untimed_monitor.specs.Kept.{GivesTruth, GivesKept};
-ghost use Rattle.untimed_monitor.specs.Stands.{HasFewTerms};
 
 use qtl_truth::{Atom, Event, atom_is_of_its_event, matches};
 use std::alloc::Global;

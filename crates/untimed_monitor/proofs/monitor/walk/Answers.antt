@@ -1,8 +1,8 @@
 use Rattle.std.proofs.Common.{◌≡◌, ◌+◌, ◌-◌, ◌<◌, ◌≤◌, ◌∙◌, ◌++◌, ◌∷◌, List, length, subst, arith}
 use Rattle.std.proofs.lemmas.List.{length-set}
-use Rattle.subformulas.specs.Table.{is_timed, UsesBelow}
+use Rattle.subformulas.specs.Table.{is_timed, UsesBelow, HasFewTerms}
 use Rattle.qtl_truth.specs.declared.event.Event.{Event}
-use Rattle.untimed_monitor.specs.Stands.{HasFewTerms, AreKept}
+use Rattle.untimed_monitor.specs.Stands.{AreKept}
 use Rattle.subformulas.proofs.ByNumber.{row_at, children_within, all_at, none_at}
 use Rattle.untimed_monitor.proofs.Walking.{row_walked, told_more, kept_more, left_more, all_kept, all_told}
 use Rattle.untimed_monitor.proofs.monitor.walk.Goals as goal
