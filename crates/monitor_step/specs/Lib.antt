@@ -6,3 +6,4 @@ pub mod Rows
 pub mod Stands
 pub mod Ends
 pub mod Laws
+pub mod Serving

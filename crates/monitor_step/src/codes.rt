@@ -1,0 +1,115 @@
+//! The codes of an event's texts: each variable is served, in order.
+
+ghost use Rattle.std.specs.Prelude.{◌≡◌, ◌≢◌, ℕ, ◌+◌, ◌*◌, ◌-◌, ◌^◌, ◌<◌, ◌≤◌, [], None, length, map, IsOk, MatchResult};
+ghost use Rattle.std.specs.List.{AllByRecursion};
+ghost use Rattle.qtl_syntax.specs.Tree.{Text as TheText};
+ghost use Rattle.node_table.specs.Table.{tree_of, KeepsTrees};
+ghost use Rattle.node_table.specs.Collects.{AllValid};
+ghost use Rattle.value_codes.specs.Pairs.{code_of, IsBook};
+ghost use Rattle.subformulas.specs.Memory.{Has};
+ghost use Rattle.subformulas.specs.NeedList.{EntryArgsBelow, AreByVariable, texts_for};
+ghost use Rattle.monitor_step.specs.Serving.{AllApart, AreServed, IsCodesEnd, IsServed, IsServeEnd, pairs_at};
+
+use mon_base::Steps;
+use node_table::{Block, Handle, NodeTable};
+use qtl_truth::Event;
+use std::alloc::AllocError;
+use std::sync::ledger::Ledger;
+use subformulas::Need;
+use value_codes::Book;
+
+/// Why a variable could not be served.
+#[derive(Clone, Copy, Debug, PartialEq, Eq)]
+pub enum CodesEnd {
+    /// This many texts are told apart or needed, and the codes are fewer.
+    CodesFull { need: u32 },
+    NoMemory,
+}
+
+impl From<AllocError> for CodesEnd {
+    ghost use Rattle.std.specs.Prelude.{◌≡◌};
+    ghost use Rattle.monitor_step.specs.declared.codes.CodesEnd.TheVariants.{NoMemory};
+
+    ghost from_gives = { λ _ e. e ≡ NoMemory };
+
+    fn from(_: AllocError) -> Self {
+        CodesEnd::NoMemory
+    }
+}
+
+/// Why the variables of an event could not all be served.
+#[derive(Clone, Copy, Debug, PartialEq, Eq)]
+pub enum ServeEnd {
+    /// Of this variable this many texts are told apart or needed, and the codes are fewer.
+    CodesFull { variable: u32, need: u32 },
+    NoMemory,
+}
+
+/// Gives each text that the entries of a variable name a code, the least free ones in order. Where the new texts are
+/// more than the free codes, the codes of texts that are neither told apart nor needed are taken back first.
+fn serve_variable<L: Ledger>(
+    table: &mut NodeTable,
+    remembered: &[Handle],
+    block: Block,
+    entries: &[Need],
+    variable: u32,
+    event: &Event,
+    book: &mut Book,
+    needed_codes: &mut Vec<u32>,
+    steps: &mut Steps<L>,
+) -> Result<(), CodesEnd>
+    requires args { EntryArgsBelow (length event.now.args) entries.now }
+    requires once { AllApart (texts_for variable event.now.args entries.now) }
+    requires few { length (texts_for variable event.now.args entries.now) ≤ 2 ^ 31 }
+    requires valid { AllValid table.old remembered.now }
+    requires bits { book.old.bits ≡ block.bits }
+    requires block { block.first + block.bits ≤ 65536 }
+    ensures served { MatchResult result
+        (λ _. IsServed (map (tree_of table.old) remembered.now) block.first block.bits (texts_for variable event.now.args entries.now) book.old.pairs book.new.pairs)
+        (λ e. IsCodesEnd (map (tree_of table.old) remembered.now) block.first block.bits (texts_for variable event.now.args entries.now) book.old.pairs e) }
+    ensures no_memory { ((t : TheText) → Has (texts_for variable event.now.args entries.now) t → code_of book.old.pairs t ≢ None) → IsOk result }
+    ensures bits { book.new.bits ≡ book.old.bits }
+    ensures sound { IsBook book.new }
+    ensures room { table.new.room ≡ table.old.room }
+    ensures nodes { table.new.nodes ≡ table.old.nodes }
+    ensures kept { KeepsTrees table.old table.new }
+    ensures cost { steps.new ≤ steps.old + (2 ^ block.bits - 1) * ((table.old.room + 2) * (2 * block.bits + 1)) }
+    ensures idle { remembered.now ≡ [] → steps.new ≡ steps.old }
+{
+    Ok(())
+}
+
+/// Serves the variables in order; the block of variable x has the levels from x times the number of bits on. After an
+/// error the books may hold any part of the event's codes.
+pub fn serve_all<L: Ledger>(
+    table: &mut NodeTable,
+    remembered: &[Handle],
+    bits: u8,
+    entries: &[Need],
+    event: &Event,
+    books: &mut [Book],
+    needed_codes: &mut Vec<u32>,
+    steps: &mut Steps<L>,
+) -> Result<(), ServeEnd>
+    requires order { AreByVariable entries.now }
+    requires args { EntryArgsBelow (length event.now.args) entries.now }
+    requires once { (x : ℕ) → x < length books.old → AllApart (texts_for x event.now.args entries.now) }
+    requires few { (x : ℕ) → x < length books.old → length (texts_for x event.now.args entries.now) ≤ 2 ^ 31 }
+    requires valid { AllValid table.old remembered.now }
+    requires bits { AllByRecursion (λ b. b.bits ≡ bits) books.old }
+    requires blocks { length books.old * bits ≤ 65536 }
+    ensures served { MatchResult result
+        (λ _. AreServed (map (tree_of table.old) remembered.now) bits event.now.args entries.now (length books.old) books.old books.new)
+        (λ e. IsServeEnd (map (tree_of table.old) remembered.now) bits event.now.args entries.now books.old books.new e) }
+    ensures no_memory { ((x : ℕ) (t : TheText) → x < length books.old → Has (texts_for x event.now.args entries.now) t → code_of (pairs_at books.old x) t ≢ None) → IsOk result }
+    ensures count { length books.new ≡ length books.old }
+    ensures bits { AllByRecursion (λ b. b.bits ≡ bits) books.new }
+    ensures sound { AllByRecursion IsBook books.new }
+    ensures room { table.new.room ≡ table.old.room }
+    ensures nodes { table.new.nodes ≡ table.old.nodes }
+    ensures kept { KeepsTrees table.old table.new }
+    ensures cost { steps.new ≤ steps.old + length books.old * ((2 ^ bits - 1) * ((table.old.room + 2) * (2 * bits + 1))) }
+    ensures idle { remembered.now ≡ [] → steps.new ≡ steps.old }
+{
+    Ok(())
+}
