@@ -1,0 +1,14 @@
+pub mod Rows
+pub mod Bits
+pub mod Blocks
+pub mod Pairing
+pub mod Quantified
+pub mod Reuse
+pub mod Books
+pub mod Room
+pub mod Exact
+pub mod Order
+pub mod Told
+pub mod Stands
+pub mod Verdict
+pub mod Decided

@@ -1,0 +1,63 @@
+-- Any code can be spelled in a block, the other bits staying.
+use Rattle.std.proofs.Common.{◌≡◌, ◌≢◌, ℕ, zero, suc, ◌+◌, ◌*◌, ◌^◌, ◌<◌, ◌≤◌, ◌⊎◌, inl, inr, ⊎_elim, refl, sym, ap, ◌∙◌, arith, List, [], ◌∷◌, Bool, true, false}
+use Rattle.std.specs.Prelude.{if◌then◌else◌}
+use Rattle.std.proofs.Math.Nat.{two-pow-succ, mul-le-mul_right}
+use Rattle.std.proofs.lemmas.Bool.{cases_order}
+use Rattle.qtl_syntax.specs.Tree.{Text}
+use Rattle.node_tree.specs.Tree.{bit}
+use Rattle.node_tree.specs.Restrict.{with_bit}
+use Rattle.node_tree.proofs.OneTree.{bit-put_same, put_other}
+use Rattle.value_codes.specs.Pairs.{Pairs}
+use Rattle.monitor_step.specs.Books.{reads}
+use Rattle.monitor_step.specs.Drawn.{spelled, readings}
+use Rattle.monitor_step.specs.Operations.{SameOutside}
+
+pub spelled_same : (bits other : List Bool) (first n : ℕ) → ((l : ℕ) → first ≤ l → l < first + n → bit other l ≡ bit bits l) → spelled other first n ≡ spelled bits first n
+spelled_same bits other first zero h = refl
+spelled_same bits other first (suc n) h =
+    let e = spelled_same bits other first n (λ l p q. h l p (omega arith)) in
+    let f = h (first + n) (omega arith) (omega arith) in
+    rw (e, f) refl
+
+abbrev pub digit : Bool → ℕ
+digit b = if b then 1 else 0
+
+pub halves : (c : ℕ) → (h : ℕ) × (b : Bool) × (c ≡ 2 * h + digit b)
+halves zero = (0, false, refl)
+halves (suc c) = next (halves c)
+  where
+    next : (h : ℕ) × (b : Bool) × (c ≡ 2 * h + digit b) → (h : ℕ) × (b : Bool) × (suc c ≡ 2 * h + digit b)
+    next (h, true, e) = (h + 1, false, omega arith)
+    next (h, false, e) = (h, true, omega arith)
+
+pub at_most : (b : Bool) → digit b ≤ 1
+at_most true = omega arith
+at_most false = omega arith
+
+-- some bits spell the code in the block and are the same elsewhere
+pub spell : (first n c : ℕ) (bits : List Bool) → c < 2 ^ n → (other : List Bool) × SameOutside first n bits other × (spelled other first n ≡ c)
+spell first zero c bits h = (bits, λ l p. refl, omega arith)
+spell first (suc n) c bits h =
+    let (half, b, e) = halves c in
+    let p = two-pow-succ n in
+    let q = at_most b in
+    let (other, outside, s) = spell first n half bits (omega arith) in
+    let here : bit (with_bit other (first + n) b) (first + n) ≡ b = bit-put_same other (first + n) b in
+    let below : spelled (with_bit other (first + n) b) first n ≡ spelled other first n = spelled_same other (with_bit other (first + n) b) first n (λ l x y. put_other other (first + n) l b (λ z. omega arith)) in (
+      with_bit other (first + n) b,
+      λ l o. put_other other (first + n) l b (λ z. ⊎_elim (λ x. omega arith) (λ x. omega arith) o) ∙ outside l (⊎_elim (λ x. inl x) (λ x. inr (omega arith)) o),
+      rw (here, below, s) (sym e),
+    )
+
+apart : (x y width l : ℕ) → y ≢ x → y * width ≤ l → l < y * width + width → (l < x * width) ⊎ (x * width + width ≤ l)
+apart x y width l n p q = by_order (cases_order x y)
+  where
+    by_order : (x ≡ y) ⊎ ((x < y) ⊎ (y < x)) → (l < x * width) ⊎ (x * width + width ≤ l)
+    by_order (inl e) = absurd (n (sym e))
+    by_order (inr (inl h)) = let m = mul-le-mul_right {m = x + 1} {n = y} width (omega arith) in let d : (x + 1) * width ≡ x * width + width = omega arith in inr (omega arith)
+    by_order (inr (inr h)) = let m = mul-le-mul_right {m = y + 1} {n = x} width (omega arith) in let d : (y + 1) * width ≡ y * width + width = omega arith in inl (omega arith)
+
+-- the readings of the other variables stay
+pub readings_other : (books : ℕ → Pairs) (f : Text) (width x y : ℕ) (bits other : List Bool) → SameOutside (x * width) width bits other → y ≢ x → readings books f width other y ≡ readings books f width bits y
+readings_other books f width x y bits other o n =
+    ap (λ (c : ℕ). reads (books y) f c) (spelled_same bits other (y * width) width (λ l p q. o l (apart x y width l n p q)))
