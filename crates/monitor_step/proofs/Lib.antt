@@ -12,3 +12,5 @@ pub mod Told
 pub mod Stands
 pub mod Verdict
 pub mod Decided
+pub mod ServingTexts
+pub mod ServingGives

@@ -7,3 +7,4 @@ pub mod Stands
 pub mod Ends
 pub mod Laws
 pub mod Serving
+pub mod Giving

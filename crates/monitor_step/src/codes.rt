@@ -1,6 +1,6 @@
 //! The codes of an event's texts: each variable is served, in order.
 
-ghost use Rattle.std.specs.Prelude.{◌≡◌, ◌≢◌, ℕ, ◌+◌, ◌*◌, ◌-◌, ◌^◌, ◌<◌, ◌≤◌, [], None, length, map, IsOk, MatchResult};
+ghost use Rattle.std.specs.Prelude.{◌≡◌, ◌≢◌, ℕ, ◌+◌, ◌*◌, ◌-◌, ◌^◌, ◌<◌, ◌≤◌, [], None, length, map, IsOk, OnOk, MatchResult};
 ghost use Rattle.std.specs.List.{AllByRecursion};
 ghost use Rattle.qtl_syntax.specs.Tree.{Text as TheText};
 ghost use Rattle.node_table.specs.Table.{tree_of, KeepsTrees};
@@ -8,15 +8,20 @@ ghost use Rattle.node_table.specs.Collects.{AllValid};
 ghost use Rattle.value_codes.specs.Pairs.{code_of, IsBook};
 ghost use Rattle.subformulas.specs.Memory.{Has};
 ghost use Rattle.subformulas.specs.NeedList.{EntryArgsBelow, AreByVariable, texts_for};
+ghost use Rattle.code_reclaim.specs.Swept.{stays, Keeps};
+ghost use Rattle.monitor_step.specs.Books.{without_code};
+ghost use Rattle.monitor_step.specs.Giving.{codes_in, GivesAll, GivesOne, TakesTooMany};
 ghost use Rattle.monitor_step.specs.Serving.{AllApart, AreServed, IsCodesEnd, IsServed, IsServeEnd, pairs_at};
 
+use code_reclaim::sweep;
 use mon_base::Steps;
 use node_table::{Block, Handle, NodeTable};
+use qtl_syntax::Text;
 use qtl_truth::Event;
 use std::alloc::AllocError;
 use std::sync::ledger::Ledger;
 use subformulas::Need;
-use value_codes::Book;
+use value_codes::{Book, GiveFault};
 
 /// Why a variable could not be served.
 #[derive(Clone, Copy, Debug, PartialEq, Eq)]
@@ -43,6 +48,125 @@ pub enum ServeEnd {
     /// Of this variable this many texts are told apart or needed, and the codes are fewer.
     CodesFull { variable: u32, need: u32 },
     NoMemory,
+}
+
+/// How many of a variable's texts have no code.
+fn count_new(entries: &[Need], variable: u32, event: &Event, book: &Book) -> u32
+    requires args { EntryArgsBelow (length event.now.args) entries.now }
+    requires few { length (texts_for variable event.now.args entries.now) ≤ 2 ^ 31 }
+    ensures count { result ≡ length (without_code book.now.pairs (texts_for variable event.now.args entries.now)) }
+    ensures few { result ≤ 2 ^ 31 }
+{
+    let args = event.args.as_slice();
+    let mut count = 0;
+    for entry in entries {
+        if entry.variable == variable && book.code_of(&args[entry.arg as usize]).is_none() {
+            count += 1;
+        }
+    }
+    count
+}
+
+/// Lists the codes of a variable's texts that have one, in place of what the list held.
+fn list_codes(
+    entries: &[Need],
+    variable: u32,
+    event: &Event,
+    book: &Book,
+    codes: &mut Vec<u32>,
+) -> Result<(), AllocError>
+    requires args { EntryArgsBelow (length event.now.args) entries.now }
+    ensures { OnOk result (codes.new.items ≡ codes_in book.now.pairs (texts_for variable event.now.args entries.now)) }
+{
+    let args = event.args.as_slice();
+    codes.clear();
+    for entry in entries {
+        if entry.variable == variable {
+            if let Some(code) = book.code_of(&args[entry.arg as usize]) {
+                codes.push(code)?;
+            }
+        }
+    }
+    Ok(())
+}
+
+/// Takes back the codes of a variable's texts that are neither told apart nor needed, and says whether the new texts
+/// find free codes then.
+fn make_room<L: Ledger>(
+    table: &mut NodeTable,
+    remembered: &[Handle],
+    block: Block,
+    book: &mut Book,
+    needed_codes: &[u32],
+    new: u32,
+    steps: &mut Steps<L>,
+) -> Result<(), CodesEnd>
+    requires few { new ≤ 2 ^ 31 }
+    requires valid { AllValid table.old remembered.now }
+    requires bits { book.old.bits ≡ block.bits }
+    requires block { block.first + block.bits ≤ 65536 }
+    ensures swept { Keeps (stays (map (tree_of table.old) remembered.now) block.first block.bits needed_codes.now) book.old.pairs book.new.pairs }
+    ensures answer { MatchResult result
+        (λ _. length book.new.pairs + new < 2 ^ block.bits)
+        (λ e. TakesTooMany block.bits (length book.new.pairs + new) e) }
+    ensures bits { book.new.bits ≡ book.old.bits }
+    ensures sound { IsBook book.new }
+    ensures room { table.new.room ≡ table.old.room }
+    ensures nodes { table.new.nodes ≡ table.old.nodes }
+    ensures kept { KeepsTrees table.old table.new }
+    ensures cost { steps.new ≤ steps.old + (2 ^ block.bits - 1) * ((table.old.room + 2) * (2 * block.bits + 1)) }
+    ensures idle { remembered.now ≡ [] → steps.new ≡ steps.old }
+{
+    let _free = book.free_count();
+    sweep(table, remembered, block, book, needed_codes, steps);
+    let free = book.free_count();
+    if free < new {
+        let given = (1 << block.bits) - 1 - free;
+        return Err(CodesEnd::CodesFull { need: given + new });
+    }
+    Ok(())
+}
+
+/// Gives a text that has no code the least free one.
+fn give_one(text: &Text, book: &mut Book) -> Result<(), AllocError>
+    requires { code_of book.old.pairs text.now ≡ None → length book.old.pairs < 2 ^ book.old.bits - 1 }
+    ensures given { OnOk result (GivesOne book.old.bits text.now book.old.pairs book.new.pairs) }
+    ensures bits { book.new.bits ≡ book.old.bits }
+    ensures sound { IsBook book.new }
+{
+    let _free = book.free_count();
+    if book.code_of(text).is_some() {
+        return Ok(());
+    }
+    match book.give(text.copy()?) {
+        Ok(_) => Ok(()),
+        Err(GiveFault::NoMemory) => Err(AllocError),
+        Err(GiveFault::NoFreeCode) => unreachable!(),
+    }
+}
+
+/// Gives each of a variable's texts that has no code the least free one, in order.
+fn give_new(
+    entries: &[Need],
+    variable: u32,
+    event: &Event,
+    book: &mut Book,
+) -> Result<(), AllocError>
+    requires args { EntryArgsBelow (length event.now.args) entries.now }
+    requires once { AllApart (texts_for variable event.now.args entries.now) }
+    requires room { length book.old.pairs + length (without_code book.old.pairs (texts_for variable event.now.args entries.now)) < 2 ^ book.old.bits }
+    ensures given { OnOk result (GivesAll book.old.bits (texts_for variable event.now.args entries.now) book.old.pairs book.new.pairs) }
+    ensures bits { book.new.bits ≡ book.old.bits }
+    ensures sound { IsBook book.new }
+{
+    let _free = book.free_count();
+    let args = event.args.as_slice();
+    for entry in entries {
+        if entry.variable == variable {
+            give_one(&args[entry.arg as usize], book)?;
+        }
+    }
+    Ok(())
 }
 
 /// Gives each text that the entries of a variable name a code, the least free ones in order. Where the new texts are
@@ -76,6 +200,16 @@ fn serve_variable<L: Ledger>(
     ensures cost { steps.new ≤ steps.old + (2 ^ block.bits - 1) * ((table.old.room + 2) * (2 * block.bits + 1)) }
     ensures idle { remembered.now ≡ [] → steps.new ≡ steps.old }
 {
+    let _free = book.free_count();
+    let new = count_new(entries, variable, event, book);
+    if new == 0 {
+        return Ok(());
+    }
+    if book.free_count() < new {
+        list_codes(entries, variable, event, book, needed_codes)?;
+        make_room(table, remembered, block, book, needed_codes, new, steps)?;
+    }
+    give_new(entries, variable, event, book)?;
     Ok(())
 }
 
