@@ -34,6 +34,12 @@ pub at_most : (b : Bool) → digit b ≤ 1
 at_most true = omega arith
 at_most false = omega arith
 
+pub same_digit : (b d : Bool) (s h : ℕ) → 2 * s + digit b ≡ 2 * h + digit d → (s ≡ h) × (b ≡ d)
+same_digit true true s h e = (omega arith, refl)
+same_digit false false s h e = (omega arith, refl)
+same_digit true false s h e = absurd (omega arith)
+same_digit false true s h e = absurd (omega arith)
+
 -- some bits spell the code in the block and are the same elsewhere
 pub spell : (first n c : ℕ) (bits : List Bool) → c < 2 ^ n → (other : List Bool) × SameOutside first n bits other × (spelled other first n ≡ c)
 spell first zero c bits h = (bits, λ l p. refl, omega arith)

@@ -21,7 +21,7 @@ use Rattle.value_codes.proofs.Lookups.{code_reads}
 use Rattle.monitor_step.specs.Drawn.{spelled}
 use Rattle.monitor_step.specs.Operations.{SameOutside}
 use Rattle.monitor_step.specs.Stands.{StandsFor, IsPlan, AreTexts, ToldByTrees}
-use Rattle.monitor_step.proofs.Bits.{spell, halves, digit, at_most}
+use Rattle.monitor_step.proofs.Bits.{spell, halves, digit, at_most, same_digit}
 use Rattle.monitor_step.proofs.Blocks.{value_same, level_cases}
 use Rattle.monitor_step.proofs.Books.{IsSound, sound}
 use Rattle.monitor_step.proofs.Told.{told_by_trees}
@@ -32,12 +32,6 @@ use Rattle.std.proofs.lemmas.Option.{slice_get_within}
 abbrev pub IsRestricted : ℕ → ℕ → ℕ → Tree → Tree → Type 0
 IsRestricted first n c t result =
     IsOrdered result × IsReduced result × ((bits : List Bool) (other : List Bool) → SameOutside first n bits other → spelled other first n ≡ c → value result bits ≡ value t other)
-
-same_digit : (b d : Bool) (s h : ℕ) → 2 * s + digit b ≡ 2 * h + digit d → (s ≡ h) × (b ≡ d)
-same_digit true true s h e = (omega arith, refl)
-same_digit false false s h e = (omega arith, refl)
-same_digit true false s h e = absurd (omega arith)
-same_digit false true s h e = absurd (omega arith)
 
 -- other bits in a block of n + 1: those of a block of n, and then the last one
 pub restricted : (first n c : ℕ) (t : Tree) → c < 2 ^ n → IsOrdered t → IsReduced t → (result : Tree) × IsRestricted first n c t result

@@ -8,6 +8,12 @@ pub mod Books
 pub mod Room
 pub mod Exact
 pub mod Order
+pub mod Counted
+pub mod Spelling
+pub mod Apart
+pub mod RowTrees
+pub mod TreesFrom
+pub mod Stepping
 pub mod Told
 pub mod Stands
 pub mod Verdict

@@ -1,13 +1,16 @@
 -- The order of a book's pairs doesn't matter.
-use Rattle.std.proofs.Common.{◌≡◌, ℕ, inl, inr, refl, sym, ap, ◌∙◌, subst, arith, List, [], ◌∷◌, ◌++◌, length, Bool, true, false, Option, Some, None}
+use Rattle.std.proofs.Common.{◌≡◌, ℕ, inl, inr, refl, sym, ap, ◌∙◌, ◌↔◌, subst, arith, List, [], ◌∷◌, ◌++◌, length, Bool, true, false, Option, Some, None}
 use Rattle.std.specs.Prelude.{if◌then◌else◌, bytes_eq, nat_lt}
 use Rattle.std.specs.List.{list_any}
 use Rattle.qtl_syntax.specs.Tree.{Text}
-use Rattle.value_codes.specs.Pairs.{Pairs, code_of, value_of, IsLeastFree, IsPaired}
+use Rattle.subformulas.specs.Memory.{Has}
+use Rattle.value_codes.specs.Pairs.{Pairs, code_of, value_of, IsLeastFree, IsPaired, Adds}
+use Rattle.code_reclaim.specs.Swept.{Keeps, kept_code}
 use Rattle.value_codes.proofs.Lookups.{Tells, texts_tell, code_reads, reads_code}
 use Rattle.monitor_step.specs.Books.{SameCodes, Gives, keep, without_code, free_count, with_room, IsNextBook}
-use Rattle.monitor_step.proofs.Pairing.{paired_kept}
-use Rattle.monitor_step.proofs.Room.{texts_of, no_longer, texts_apart, has_coded, code_has, length-texts}
+use Rattle.monitor_step.proofs.Pairing.{any_has, paired_kept}
+use Rattle.monitor_step.proofs.Rows.{alike}
+use Rattle.monitor_step.proofs.Room.{any_from, texts_of, no_longer, texts_apart, has_coded, code_has, length-texts}
 use Rattle.monitor_step.proofs.Exact.{least_once}
 
 pub same_values : (a b : Pairs) → IsPaired a → IsPaired b → SameCodes a b → (c : ℕ) → value_of a c ≡ value_of b c
@@ -30,14 +33,14 @@ pub same_without : (a b : Pairs) (ts : List Text) → SameCodes a b → without_
 same_without a b [] h = refl
 same_without a b (t ∷ ts) h = rw (h t, same_without a b ts h) refl
 
+either_way : (b : Bool) (o : Option ℕ) → o ≡ (if b then o else o)
+either_way true o = refl
+either_way false o = refl
+
 -- the code of a text after a sweep
-kept_code : (ts : List Text) (book : Pairs) (t : Text) → code_of (keep ts book) t ≡ (if list_any (bytes_eq t) ts then code_of book t else None)
-kept_code ts [] t = by_test (list_any (bytes_eq t) ts) None
-  where
-    by_test : (b : Bool) (o : Option ℕ) → o ≡ (if b then o else o)
-    by_test true o = refl
-    by_test false o = refl
-kept_code ts (p ∷ book) t = by_head (texts_tell p.0 t) (list_any (bytes_eq p.0) ts) refl (list_any (bytes_eq t) ts) refl (kept_code ts book t)
+pub code_kept_of : (ts : List Text) (book : Pairs) (t : Text) → code_of (keep ts book) t ≡ (if list_any (bytes_eq t) ts then code_of book t else None)
+code_kept_of ts [] t = either_way (list_any (bytes_eq t) ts) None
+code_kept_of ts (p ∷ book) t = by_head (texts_tell p.0 t) (list_any (bytes_eq p.0) ts) refl (list_any (bytes_eq t) ts) refl (code_kept_of ts book t)
   where
     by_head : Tells (bytes_eq p.0 t) (p.0 ≡ t) → (b : Bool) → list_any (bytes_eq p.0) ts ≡ b → (d : Bool) → list_any (bytes_eq t) ts ≡ d → code_of (keep ts book) t ≡ (if list_any (bytes_eq t) ts then code_of book t else None) →
         code_of (if b then p ∷ keep ts book else keep ts book) t ≡ (if d then (if bytes_eq p.0 t then Some p.1 else code_of book t) else None)
@@ -51,7 +54,7 @@ kept_code ts (p ∷ book) t = by_head (texts_tell p.0 t) (list_any (bytes_eq p.0
     by_head (inr q) false e false f h = rw f at h
 
 pub same_kept : (ts : List Text) (a b : Pairs) → SameCodes a b → SameCodes (keep ts a) (keep ts b)
-same_kept ts a b h t = kept_code ts a t ∙ (ap (λ o. if list_any (bytes_eq t) ts then o else None) (h t) ∙ sym (kept_code ts b t))
+same_kept ts a b h t = code_kept_of ts a t ∙ (ap (λ o. if list_any (bytes_eq t) ts then o else None) (h t) ∙ sym (code_kept_of ts b t))
 
 same_gives : (bits : ℕ) (ts : List Text) (a b a' b' : Pairs) → IsPaired a → IsPaired b → SameCodes a b → Gives bits ts a a' → Gives bits ts b b' → SameCodes a' b'
 same_gives bits [] a b a' b' p q h g k t = ap (λ z. code_of z t) g ∙ (h t ∙ sym (ap (λ z. code_of z t) k))
@@ -80,6 +83,23 @@ pub order_free : (bits : ℕ) (told needed : List Text) (a b a' b' : Pairs) → 
 order_free bits told needed a b a' b' p q h g k =
     let r = same_room bits told needed a b p q h in
     same_gives bits (without_code a needed) _ _ a' b' r.1 r.2 r.0 g (subst (λ ts. Gives bits ts (with_room bits told needed b) b') (sym (same_without a b needed h)) k)
+
+-- the pair that is added
+pub added_same : (pairs book after : Pairs) (t : Text) (c : ℕ) → SameCodes pairs book → Adds pairs t c after → SameCodes after ((t, c) ∷ book)
+added_same pairs book after t c h a u = a.codes u ∙ ap (λ o. if bytes_eq t u then Some c else o) (h u)
+
+-- the pairs that a sweep leaves, where it keeps the codes of the texts that stay
+pub kept_same : (told needed : List Text) (pairs book after : Pairs) (kept : ℕ → Bool) → SameCodes pairs book → Keeps kept pairs after →
+    ((t : Text) (c : ℕ) → code_of book t ≡ Some c → (kept c ≡ true) ↔ Has (told ++ needed) t) → SameCodes after (keep (told ++ needed) book)
+kept_same told needed pairs book after kept h k stays t =
+    k.codes t ∙ (ap (kept_code kept) (h t) ∙ (by_code (code_of book t) refl ∙ sym (code_kept_of (told ++ needed) book t)))
+  where
+    by_code : (o : Option ℕ) → code_of book t ≡ o → kept_code kept o ≡ (if list_any (bytes_eq t) (told ++ needed) then o else None)
+    by_code None e = either_way (list_any (bytes_eq t) (told ++ needed)) None
+    by_code (Some c) e = ap (λ b. if b then Some c else None) (alike (kept c) (list_any (bytes_eq t) (told ++ needed)) (
+      λ p. any_has (told ++ needed) t ((stays t c e).0 p),
+      λ p. (stays t c e).1 (any_from (told ++ needed) t p),
+    ))
 
 -- what a code's book takes over from the definition's: the least free code, and the pair that is given
 pub same_least : (a b : Pairs) (c : ℕ) → IsPaired a → IsPaired b → SameCodes a b → IsLeastFree a c → IsLeastFree b c

@@ -47,7 +47,7 @@ no_longer (x ∷ xs) ys a h =
     let f = no_longer xs (remove x ys) a.1 (λ t p. r.1 t (h t (inr p)) (λ e. a.0 (subst (Has xs) (sym e) p))) in
     omega arith
 
-apart_append : (xs ys : List Text) → AllApart xs → AllApart ys → ((t : Text) → Has xs t → ¬ Has ys t) → AllApart (xs ++ ys)
+pub apart_append : (xs ys : List Text) → AllApart xs → AllApart ys → ((t : Text) → Has xs t → ¬ Has ys t) → AllApart (xs ++ ys)
 apart_append [] ys a b n = b
 apart_append (x ∷ xs) ys a b n = (λ h. ⊎_elim a.0 (n x (inl refl)) (split xs ys x h), apart_append xs ys a.1 b (λ t p. n t (inr p)))
   where
@@ -80,7 +80,7 @@ unrepeated_apart_after seen (t ∷ ts) =
 pub unrepeated_apart : (ts : List Text) → AllApart (unrepeated ts)
 unrepeated_apart ts = unrepeated_apart_after [] ts
 
-without_apart : (book : Pairs) (ts : List Text) → AllApart ts → AllApart (without_code book ts)
+pub without_apart : (book : Pairs) (ts : List Text) → AllApart ts → AllApart (without_code book ts)
 without_apart book [] a = tt
 without_apart book (t ∷ ts) a = by_if AllApart (is_some (code_of book t)) (without_code book ts) (t ∷ without_code book ts) (without_apart book ts a.1) (λ h. a.0 (without_from book ts t h).0, without_apart book ts a.1)
 
@@ -105,11 +105,11 @@ unfolding texts_of
 texts_apart [] h = tt
 texts_apart (p ∷ book) h = (λ q. has_coded book p.0 q h.0, texts_apart book h.2)
 
-any_from : (ts : List Text) (t : Text) → list_any (bytes_eq t) ts ≡ true → Has ts t
+pub any_from : (ts : List Text) (t : Text) → list_any (bytes_eq t) ts ≡ true → Has ts t
 any_from [] t h = absurd (cc)
 any_from (u ∷ ts) t h = ⊎_elim (λ e. inl e) (λ k. inr (any_from ts t k)) (any_cons t u ts h)
 
-kept_in : (ts : List Text) (book : Pairs) (t : Text) → Has (texts_of (keep ts book)) t → Has ts t
+pub kept_in : (ts : List Text) (book : Pairs) (t : Text) → Has (texts_of (keep ts book)) t → Has ts t
 unfolding texts_of
 kept_in ts [] t h = absurd h
 kept_in ts (p ∷ book) t h = by_test (list_any (bytes_eq p.0) ts) refl (kept_in ts book t) h

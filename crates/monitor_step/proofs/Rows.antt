@@ -10,7 +10,7 @@ use Rattle.bdd_ops.specs.Numbers.{truth_of}
 use Rattle.monitor_step.specs.Drawn.{Draws}
 use Rattle.monitor_step.specs.Operations.{IsApplied, IsNot}
 
-alike : (a b : Bool) → (IsTrue a ↔ IsTrue b) → a ≡ b
+pub alike : (a b : Bool) → (IsTrue a ↔ IsTrue b) → a ≡ b
 alike true true h = refl
 alike false false h = refl
 alike true false h = let e = h.0 refl in cc
