@@ -1,5 +1,5 @@
 -- How many codes an event takes, counted in the book.
-use Rattle.std.proofs.Common.{◌≡◌, ◌≢◌, ℕ, ◌+◌, ◌-◌, ◌^◌, ◌≤◌, ◌⊎◌, inl, inr, ⊎_elim, arith, List, [], ◌∷◌, ◌++◌, length, length-append, Bool, true, false, Option, Some, None}
+use Rattle.std.proofs.Common.{◌≡◌, ◌≢◌, ℕ, ◌+◌, ◌-◌, ◌^◌, ◌≤◌, ◌⊎◌, inl, inr, arith, List, [], ◌∷◌, ◌++◌, length, length-append, Bool, true, false, Option, Some, None}
 use Rattle.std.specs.Prelude.{if◌then◌else◌, bytes_eq, refl}
 use Rattle.std.specs.List.{list_any}
 use Rattle.qtl_syntax.specs.Tree.{Text}
@@ -16,7 +16,8 @@ use Rattle.value_codes.proofs.Lookups.{some_none}
 use Rattle.monitor_step.specs.Books.{keep, without_code, free_count}
 use Rattle.monitor_step.proofs.Pairing.{any_has, paired_kept, code_kept, code_back, without_has, without_from}
 use Rattle.monitor_step.proofs.Books.{IsSound}
-use Rattle.monitor_step.proofs.Room.{AllApart, no_longer, apart_append, unrepeated_apart, without_apart, texts_of, has_coded, texts_apart, kept_in, length-texts, code_has}
+use Rattle.monitor_step.specs.Serving.{AllApart}
+use Rattle.monitor_step.proofs.Room.{no_longer, apart_append, unrepeated_apart, without_apart, texts_of, has_coded, texts_apart, kept_in, length-texts, code_has}
 use Rattle.monitor_step.proofs.Exact.{selected}
 
 module _ (told needed : List Text) (book : Pairs) (apart : AllApart needed) (paired : IsPaired book) (coded : (t : Text) → Has told t → code_of book t ≢ None) where

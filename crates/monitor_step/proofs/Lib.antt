@@ -20,3 +20,4 @@ pub mod Verdict
 pub mod Decided
 pub mod ServingTexts
 pub mod ServingGives
+pub mod Serving

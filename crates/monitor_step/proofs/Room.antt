@@ -14,12 +14,8 @@ use Rattle.subformulas.proofs.Plain.{from_unrepeated}
 use Rattle.value_codes.specs.Pairs.{Pairs, code_of, value_of, IsLeastFree, IsPaired}
 use Rattle.value_codes.proofs.Lookups.{Tells, texts_tell, some_none}
 use Rattle.monitor_step.specs.Books.{Gives, keep, without_code, free_count, IsNextBook}
+use Rattle.monitor_step.specs.Serving.{AllApart}
 use Rattle.monitor_step.proofs.Pairing.{any_has, by_if, paired_kept, code_kept, without_from}
-
--- no text stands twice
-abbrev pub AllApart : List Text → Type 0
-AllApart [] = Unit {0}
-AllApart (t ∷ ts) = (¬ Has ts t) × AllApart ts
 
 remove : Text → List Text → List Text
 remove x [] = []

@@ -1,12 +1,12 @@
 -- Codes are given to texts one after the other.
-use Rattle.std.proofs.Common.{◌≡◌, ◌≢◌, ℕ, ◌+◌, ◌-◌, ◌^◌, ◌<◌, ◌∙◌, [], ◌∷◌, List, length, inl, inr, refl, sym, ap, subst, arith, Option, Some, None}
+use Rattle.std.proofs.Common.{◌≡◌, ℕ, ◌+◌, ◌-◌, ◌^◌, ◌<◌, ◌∙◌, [], ◌∷◌, List, length, inl, inr, refl, sym, ap, subst, arith, Option, Some, None}
 use Rattle.std.specs.Prelude.{bytes_eq, is_some, if◌then◌else◌}
 use Rattle.qtl_syntax.specs.Tree.{Text}
 use Rattle.subformulas.specs.Memory.{Has}
-use Rattle.value_codes.specs.Pairs.{Pairs, Contents, code_of, IsBook, IsPaired, IsLeastFree, Adds}
+use Rattle.value_codes.specs.Pairs.{Pairs, Contents, code_of, IsBook, IsPaired, Adds}
 use Rattle.value_codes.proofs.Lookups.{Tells, texts_tell}
 use Rattle.monitor_step.specs.Books.{Gives, SameCodes, without_code}
-use Rattle.monitor_step.specs.Giving.{GivesAll, GivesOne, GivesTo, Takes}
+use Rattle.monitor_step.specs.Giving.{GivesAll, GivesOne, GivesTo}
 use Rattle.monitor_step.specs.Serving.{AllApart}
 use Rattle.monitor_step.proofs.Order.{same_least, added_same}
 

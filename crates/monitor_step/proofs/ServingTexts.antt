@@ -1,7 +1,6 @@
 -- The texts of a variable's entries, one after the other, and those of them that have no code.
 use Rattle.std.proofs.Common.{◌≡◌, ℕ, ◌+◌, ◌<◌, ◌≤◌, [], ◌∷◌, ◌++◌, List, length, drop, get_or, Bool, true, false, refl, ap, sym, subst, ◌∙◌, add-one, drop-cons, arith}
 use Rattle.std.specs.Prelude.{is_some, nat_eq, slice_index_or, if◌then◌else◌}
-use Rattle.std.specs.List.{AllByRecursion}
 use Rattle.std.proofs.lemmas.Bool.Decides.{nat_tests}
 use Rattle.qtl_syntax.specs.Tree.{Text}
 use Rattle.subformulas.specs.NeedList.{EntryArgsBelow, texts_for}

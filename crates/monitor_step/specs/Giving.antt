@@ -1,5 +1,5 @@
 -- What the parts of serving one variable do.
-use Rattle.std.specs.Prelude.{◌≡◌, ℕ, ◌-◌, ◌^◌, ◌<◌, ◌≤◌, ◌⊎◌, List, [], ◌∷◌, Option, None, Some}
+use Rattle.std.specs.Prelude.{◌≡◌, ℕ, ◌-◌, ◌^◌, ◌<◌, ◌≤◌, List, [], ◌∷◌, Option, None, Some}
 use Rattle.qtl_syntax.specs.Tree.{Text}
 use Rattle.value_codes.specs.Pairs.{Pairs, code_of, IsPaired, IsLeastFree, Adds}
 use Rattle.monitor_step.specs.declared.codes.CodesEnd.{CodesEnd}

@@ -1,9 +1,7 @@
-use Rattle.std.proofs.Common.{◌≡◌, ◌+◌, ◌<◌, ◌∷◌, ◌∙◌, ap, drop, length, sym, subst}
-use Rattle.qtl_syntax.specs.Tree.{Text}
+use Rattle.std.proofs.Common.{◌+◌, ◌<◌, drop, length, sym, subst}
 use Rattle.subformulas.specs.declared.need_list.Need.{Need}
 use Rattle.subformulas.specs.NeedList.{texts_for}
 use Rattle.subformulas.proofs.Entries.{all_here}
-use Rattle.value_codes.specs.Pairs.{Contents}
 use Rattle.monitor_step.proofs.ServingTexts.{text_read, text_none}
 use Rattle.monitor_step.proofs.ServingGives.{IsGiving, giving_more, room_here}
 use Rattle.monitor_step.proofs.codes.give_new.Goals.{then-entry-variable+in_ok-give_one, else-entry-variable}
