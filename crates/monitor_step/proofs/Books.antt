@@ -1,8 +1,6 @@
 -- Books keep what drawing asks of them: a text without a code is plain, and a code without a pair reads like all ones.
-use Rattle.std.proofs.Common.{◌≡◌, ◌≢◌, ℕ, zero, suc, ◌+◌, ◌-◌, ◌^◌, ◌<◌, ◌⊎◌, inl, inr, ⊎_elim, sym, ap, ◌∙◌, refl, subst, arith, List, [], ◌∷◌, ◌++◌, length, true, false, Option, Some, None}
-use Rattle.std.specs.Prelude.{nat_eq, nat_lt, if◌then◌else◌, unwrap_or, slice_get}
-use Rattle.std.specs.List.{list_any}
-use Rattle.std.specs.Prelude.{bytes_eq}
+use Rattle.std.proofs.Common.{◌≡◌, ◌≢◌, ℕ, zero, suc, ◌+◌, ◌-◌, ◌^◌, ◌<◌, inl, inr, ⊎_elim, sym, ap, ◌∙◌, refl, subst, arith, List, [], ◌∷◌, ◌++◌, length, true, false, Some, None}
+use Rattle.std.specs.Prelude.{nat_eq, nat_lt, unwrap_or, slice_get}
 use Rattle.std.proofs.lemmas.Bool.Decides.{eqb_tells}
 use Rattle.qtl_syntax.specs.Tree.{Text}
 use Rattle.qtl_truth.specs.declared.event.Event.{Event}
@@ -20,7 +18,7 @@ use Rattle.subformulas.proofs.Decide.{untold_plain}
 use Rattle.value_codes.specs.Pairs.{Pairs, code_of, value_of, IsPaired}
 use Rattle.value_codes.proofs.Lookups.{Tells, some_none}
 use Rattle.monitor_step.specs.Books.{Gives, keep, without_code, free_count, with_room, IsNextBook, IsBook, reads}
-use Rattle.monitor_step.proofs.Pairing.{any_has, by_if, code_kept, paired_kept, Swept, swept, code_back, gives_code, gives_all, gives_paired, EachPair, gives_each, without_has, without_from, selects}
+use Rattle.monitor_step.proofs.Pairing.{any_has, by_if, paired_kept, Swept, swept, code_back, gives_code, gives_all, gives_paired, EachPair, gives_each, without_has, without_from, selects}
 use Rattle.monitor_step.proofs.Reuse.{SameReadings}
 
 -- what drawing asks of a book
@@ -44,7 +42,7 @@ module _ (bits : ℕ) (subs : List Sub) (table : IsUntimedTable subs) (log : Lis
     reads_same : (book book' : Pairs) (c : ℕ) → value_of book' c ≡ value_of book c → SameMemory subs log x i (reads book (fresh log (i + 1)) c) (reads book' (fresh log (i + 1)) c)
     reads_same book book' c h = subst (λ o. SameMemory subs log x i (reads book (fresh log (i + 1)) c) (unwrap_or o (fresh log (i + 1)))) (sym h) (λ k nu p. same)
 
-    swept_same : SameReadings subs table log i x before (keep (told ++ needed) before)
+    swept_same : SameReadings subs log i x before (keep (told ++ needed) before)
     swept_same c = by_case (swept (told ++ needed) before c sound.paired)
       where
         by_case : Swept (told ++ needed) (value_of before c) (value_of (keep (told ++ needed) before) c) → SameMemory subs log x i (reads before (fresh log (i + 1)) c) (reads (keep (told ++ needed) before) (fresh log (i + 1)) c)
@@ -60,7 +58,7 @@ module _ (bits : ℕ) (subs : List Sub) (table : IsUntimedTable subs) (log : Lis
       pub paired : IsPaired book
       pub below : EachPair (λ c t. c < 2 ^ bits - 1) book
       pub texts : EachPair (λ c t. IsText t) book
-      pub reading : SameReadings subs table log i x before book
+      pub reading : SameReadings subs log i x before book
       pub plain : (t : Text) → code_of book t ≡ None → IsPlain subs log x i t
       pub needs : (t : Text) → Has needed t → code_of book t ≡ None → code_of before t ≡ None
 
@@ -94,7 +92,7 @@ module _ (bits : ℕ) (subs : List Sub) (table : IsUntimedTable subs) (log : Lis
     room : Room (with_room bits told needed before)
     room = by_if Room (nat_lt (free_count bits before) (length (without_code before needed))) (keep (told ++ needed) before) before room_kept room_all
 
-    gives_same : (ts : List Text) (book after : Pairs) → Gives bits ts book after → ((t : Text) → Has ts t → IsPlain subs log x i t) → SameReadings subs table log i x book after
+    gives_same : (ts : List Text) (book after : Pairs) → Gives bits ts book after → ((t : Text) → Has ts t → IsPlain subs log x i t) → SameReadings subs log i x book after
     gives_same [] book after g p c k nu h = reads_same book after c (ap (λ b. value_of b c) g) k nu h
     gives_same (u ∷ ts) book after (d, n, l, m, g) p c k nu h =
         joined (by_test (eqb_tells d c) k nu h) (gives_same ts ((u, d) ∷ book) after g (λ t q. p t (inr q)) c k nu h)
@@ -113,7 +111,7 @@ module _ (bits : ℕ) (subs : List Sub) (table : IsUntimedTable subs) (log : Lis
       new_plain t h = sound.plain t (without_from before (need subs x e) t h).1
 
       -- each code reads, in the new book, as a text that gives the same memory
-      pub next_readings : SameReadings subs table log i x before after
+      pub next_readings : SameReadings subs log i x before after
       next_readings c k nu h = joined (room.reading c k nu h) (gives_same _ _ after next new_plain c k nu h)
 
       -- each needed text has a code

@@ -21,12 +21,12 @@ use Rattle.value_codes.proofs.Lookups.{code_reads}
 use Rattle.monitor_step.specs.Drawn.{spelled}
 use Rattle.monitor_step.specs.Operations.{SameOutside}
 use Rattle.monitor_step.specs.Stands.{StandsFor, IsPlan, AreTexts, ToldByTrees}
-use Rattle.monitor_step.proofs.Bits.{spell, halves, digit, at_most, same_digit}
+use Rattle.monitor_step.proofs.Bits.{spell, halves, at_most, same_digit}
 use Rattle.monitor_step.proofs.Blocks.{value_same, level_cases}
 use Rattle.monitor_step.proofs.Books.{IsSound, sound}
+use Rattle.monitor_step.proofs.Reuse.{within}
 use Rattle.monitor_step.proofs.Told.{told_by_trees}
 use Rattle.monitor_step.proofs.Exact.{selects_exist}
-use Rattle.std.proofs.lemmas.Option.{slice_get_within}
 
 -- a tree with the code set in the block
 abbrev pub IsRestricted : ℕ → ℕ → ℕ → Tree → Tree → Type 0
@@ -118,13 +118,6 @@ module _ (bits variables : ℕ) (subs : List Sub) (log : List Event) (i : ℕ) (
           ⊎_elim (λ (b, other, s, e, f, n'). inl (suc n, b, other, t, s, e, f, n')) (λ same. inr (pick all (λ b other t' s e f. same b other s e f)))
           (one_tree_tells (x * bits) bits c (2 ^ bits - 1) (memory (suc n)) p ones d.ordered d.reduced)
 
-  within : (k : ℕ) → IsTemporal subs k → k ≤ length subs
-  within k t = by_place (slice_get subs (k - 1)) refl t.1
-    where
-      by_place : (o : Option Sub) → slice_get subs (k - 1) ≡ o → IsSomeAnd o (λ s. IsTrue (is_temporal s.kind)) → k ≤ length subs
-      by_place None e h = absurd h
-      by_place (Some s) e h = let q = slice_get_within subs (k - 1) s e in omega arith
-
   told_cases : (t : Text) → Told subs log x i t ⊎ (¬ Told subs log x i t)
   told_cases t = by_code (code_of (books x) t) refl
     where
@@ -137,7 +130,7 @@ module _ (bits variables : ℕ) (subs : List Sub) (log : List Event) (i : ℕ) (
           let same = told_by_trees bits variables subs log plan i books all_sound memory stands.memory_is x low t c e in
           let l = here.below c t (code_reads (books x) t c here.paired e) in
           ⊎_elim (λ p. inl (same.0 p))
-          (λ none. inr (λ h. let (k, b, other, t', s, f, g, n) = same.1 h in n (none k b other (within k t') t' s f g)))
+          (λ none. inr (λ h. let (k, b, other, t', s, f, g, n) = same.1 h in n (none k b other (within subs k t') t' s f g)))
           (below c (omega arith) (length subs))
 
   -- of each live monitor the texts that are told apart are a list

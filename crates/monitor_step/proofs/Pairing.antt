@@ -1,5 +1,5 @@
 -- What a sweep and the giving of codes leave of pairs.
-use Rattle.std.proofs.Common.{◌≡◌, ◌≢◌, ℕ, ◌-◌, ◌^◌, ◌<◌, ◌⊎◌, inl, inr, sym, ◌∙◌, refl, subst, List, [], ◌∷◌, Bool, true, false, ◌||◌, Option, Some, None}
+use Rattle.std.proofs.Common.{◌≡◌, ◌≢◌, ℕ, ◌-◌, ◌^◌, ◌<◌, ◌⊎◌, inl, inr, sym, ◌∙◌, refl, subst, arith, List, [], ◌∷◌, Bool, true, false, ◌||◌, Option, Some, None}
 use Rattle.std.specs.Prelude.{nat_eq, if◌then◌else◌, bytes_eq, is_some}
 use Rattle.std.specs.List.{list_any}
 use Rattle.std.proofs.lemmas.Bool.Decides.{eqb_tells}
@@ -54,18 +54,16 @@ module _ (ts : List Text) where
   abbrev pub Swept : Option Text → Option Text → Type 0
   Swept o o' = (o' ≡ o) ⊎ ((t : Text) × (o ≡ Some t) × (o' ≡ None) × (list_any (bytes_eq t) ts ≡ false))
 
+  other_value : (p : Text × ℕ) (book : Pairs) (c : ℕ) → nat_eq p.1 c ≡ false → value_of (p ∷ book) c ≡ value_of book c
+  other_value p book c f = rw f refl
+
   swept_head : (p : Text × ℕ) (book : Pairs) (c : ℕ) → value_of (keep ts book) p.1 ≡ None → Swept (value_of book c) (value_of (keep ts book) c) →
       Tells (nat_eq p.1 c) (p.1 ≡ c) → (b : Bool) → list_any (bytes_eq p.0) ts ≡ b → Swept (value_of (p ∷ book) c) (value_of (if b then p ∷ keep ts book else keep ts book) c)
   swept_head p book c n h (inl q) true e = inl (rw q.0 refl)
-  swept_head p book c n h (inr q) true e = subst (λ o. Swept o (value_of (p ∷ keep ts book) c)) (sym (other p book c q.0)) (subst (λ o. Swept (value_of book c) o) (sym (other p (keep ts book) c q.0)) h)
-    where
-      other : (p : Text × ℕ) (b : Pairs) (c : ℕ) → nat_eq p.1 c ≡ false → value_of (p ∷ b) c ≡ value_of b c
-      other p b c f = rw f refl
+  swept_head p book c n h (inr q) true e =
+      subst (λ o. Swept o (value_of (p ∷ keep ts book) c)) (sym (other_value p book c q.0)) (subst (λ o. Swept (value_of book c) o) (sym (other_value p (keep ts book) c q.0)) h)
   swept_head p book c n h (inl q) false e = inr (p.0, rw q.0 refl, subst (λ (d : ℕ). value_of (keep ts book) d ≡ None) q.1 n, e)
-  swept_head p book c n h (inr q) false e = subst (λ o. Swept o (value_of (keep ts book) c)) (sym (other p book c q.0)) h
-    where
-      other : (p : Text × ℕ) (b : Pairs) (c : ℕ) → nat_eq p.1 c ≡ false → value_of (p ∷ b) c ≡ value_of b c
-      other p b c f = rw f refl
+  swept_head p book c n h (inr q) false e = subst (λ o. Swept o (value_of (keep ts book) c)) (sym (other_value p book c q.0)) h
 
   pub swept : (book : Pairs) (c : ℕ) → IsPaired book → Swept (value_of book c) (value_of (keep ts book) c)
   swept [] c h = inl refl
@@ -104,6 +102,14 @@ gives_paired bits (u ∷ ts) book after (c, n, l, m, g) p = gives_paired bits ts
 -- what holds of each pair
 abbrev pub EachPair : (ℕ → Text → Type 0) → Pairs → Type 0
 EachPair P book = (c : ℕ) (t : Text) → value_of book c ≡ Some t → P c t
+
+-- the code of all ones isn't given
+pub ones_free : (bits : ℕ) (book : Pairs) → EachPair (λ c t. c < 2 ^ bits - 1) book → value_of book (2 ^ bits - 1) ≡ None
+ones_free bits book below = by_value (value_of book (2 ^ bits - 1)) refl
+  where
+    by_value : (o : Option Text) → value_of book (2 ^ bits - 1) ≡ o → o ≡ None
+    by_value None e = refl
+    by_value (Some t) e = absurd (let h = below (2 ^ bits - 1) t e in omega arith)
 
 pub gives_each : (P : ℕ → Text → Type 0) (bits : ℕ) (ts : List Text) (book after : Pairs) → Gives bits ts book after → EachPair P book → ((c : ℕ) (t : Text) → c < 2 ^ bits - 1 → Has ts t → P c t) → EachPair P after
 gives_each P bits [] book after g p new = subst (EachPair P) (sym g) p

@@ -1,6 +1,6 @@
 -- Quantifying over a block of bits draws the quantifier over all texts.
-use Rattle.std.proofs.Common.{◌≡◌, ℕ, ◌-◌, ◌*◌, ◌^◌, ◌<◌, ◌↔◌, inl, inr, refl, sym, ap, ◌∙◌, subst, arith, List, [], ◌∷◌, Bool, true, false, Option, Some, None}
-use Rattle.std.specs.Prelude.{nat_eq, if◌then◌else◌, bytes_eq, unwrap_or}
+use Rattle.std.proofs.Common.{◌≡◌, ℕ, ◌-◌, ◌*◌, ◌^◌, ◌<◌, ◌↔◌, inl, inr, refl, sym, ap, subst, arith, List, Bool, Option, Some, None}
+use Rattle.std.specs.Prelude.{nat_eq, unwrap_or}
 use Rattle.std.proofs.lemmas.Nat.{pow_pos}
 use Rattle.std.proofs.lemmas.Bool.Decides.{eqb_tells}
 use Rattle.qtl_syntax.specs.Tree.{Text}
@@ -13,7 +13,7 @@ use Rattle.value_codes.proofs.Lookups.{Tells, code_reads}
 use Rattle.monitor_step.specs.Books.{reads}
 use Rattle.monitor_step.specs.Drawn.{Draws, spelled, readings}
 use Rattle.monitor_step.specs.Operations.{SameOutside, IsSomeOfBlock, IsEachOfBlock}
-use Rattle.monitor_step.proofs.Pairing.{EachPair}
+use Rattle.monitor_step.proofs.Pairing.{EachPair, ones_free}
 use Rattle.monitor_step.proofs.Bits.{spell, readings_other}
 
 module _ (width x : ℕ) (books : ℕ → Pairs) (fresh : Text) (fresh_text : IsText fresh) (paired : IsPaired (books x))
@@ -27,13 +27,6 @@ module _ (width x : ℕ) (books : ℕ → Pairs) (fresh : Text) (fresh_text : Is
       by_value None e = fresh_text
       by_value (Some t) e = texts c t e
 
-  ones_free : value_of (books x) (2 ^ width - 1) ≡ None
-  ones_free = by_value (value_of (books x) (2 ^ width - 1)) refl
-    where
-      by_value : (o : Option Text) → value_of (books x) (2 ^ width - 1) ≡ o → o ≡ None
-      by_value None e = refl
-      by_value (Some t) e = absurd (let h = below (2 ^ width - 1) t e in omega arith)
-
   -- each text reads like some code: its own, or all ones
   reach : (t : Text) (nu : Texts) → (c : ℕ) × (c < 2 ^ width) × (F (put x t nu) ↔ F (put x (reads (books x) fresh c) nu))
   reach t nu = by_code (code_of (books x) t) refl
@@ -43,7 +36,7 @@ module _ (width x : ℕ) (books : ℕ → Pairs) (fresh : Text) (fresh_text : Is
           let v = code_reads (books x) t c paired e in
           (c, (let h = below c t v in omega arith), subst (λ o. F (put x t nu) ↔ F (put x (unwrap_or o fresh) nu)) (sym v) same)
       by_code None e =
-          (2 ^ width - 1, (let h = pow_pos width in omega arith), subst (λ o. F (put x t nu) ↔ F (put x (unwrap_or o fresh) nu)) (sym ones_free) (unread t nu e))
+          (2 ^ width - 1, (let h = pow_pos width in omega arith), subst (λ o. F (put x t nu) ↔ F (put x (unwrap_or o fresh) nu)) (sym (ones_free width (books x) below)) (unread t nu e))
 
   -- bits that differ in the block alone read as a text put for x
   block_reads : (bits other : List Bool) → SameOutside (x * width) width bits other → (y : ℕ) →

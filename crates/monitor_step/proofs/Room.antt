@@ -10,7 +10,7 @@ use Rattle.subformulas.specs.Memory.{Has}
 use Rattle.subformulas.specs.Needs.{unrepeated_after, unrepeated, code_need}
 use Rattle.subformulas.proofs.Alike.{has_right}
 use Rattle.subformulas.proofs.Needed.{any_cons, unrepeated_has}
-use Rattle.subformulas.proofs.Plain.{from_unrepeated}
+use Rattle.subformulas.proofs.Plain.{has_cases, from_unrepeated}
 use Rattle.value_codes.specs.Pairs.{Pairs, code_of, value_of, IsLeastFree, IsPaired}
 use Rattle.value_codes.proofs.Lookups.{Tells, texts_tell, some_none}
 use Rattle.monitor_step.specs.Books.{Gives, keep, without_code, free_count, IsNextBook}
@@ -45,12 +45,7 @@ no_longer (x ∷ xs) ys a h =
 
 pub apart_append : (xs ys : List Text) → AllApart xs → AllApart ys → ((t : Text) → Has xs t → ¬ Has ys t) → AllApart (xs ++ ys)
 apart_append [] ys a b n = b
-apart_append (x ∷ xs) ys a b n = (λ h. ⊎_elim a.0 (n x (inl refl)) (split xs ys x h), apart_append xs ys a.1 b (λ t p. n t (inr p)))
-  where
-    split : (xs ys : List Text) (t : Text) → Has (xs ++ ys) t → Has xs t ⊎ Has ys t
-    split [] ys t h = inr h
-    split (u ∷ xs) ys t (inl e) = inl (inl e)
-    split (u ∷ xs) ys t (inr h) = ⊎_elim (λ p. inl (inr p)) (λ p. inr p) (split xs ys t h)
+apart_append (x ∷ xs) ys a b n = (λ h. ⊎_elim a.0 (n x (inl refl)) (has_cases xs ys x h), apart_append xs ys a.1 b (λ t p. n t (inr p)))
 
 unseen : (seen ts : List Text) (a : Text) → Has (unrepeated_after seen ts) a → list_any (bytes_eq a) seen ≡ false
 unseen seen [] a h = absurd h
@@ -190,16 +185,11 @@ next_exists bits told needed before a paired l = by_room (nat_lt (free_count bit
         let m = no_longer (texts_of kept ++ new) (unrepeated (told ++ needed))
         (apart_append (texts_of kept) new (texts_apart kept (paired_kept (told ++ needed) before paired)) new_apart
         (λ t p q. has_coded kept t p (code_kept (told ++ needed) before t (without_from before needed t q).1)))
-        (λ t p. unrepeated_has (told ++ needed) t (either_has kept t (split (texts_of kept) new t p))) in
+        (λ t p. unrepeated_has (told ++ needed) t (either_has kept t (has_cases (texts_of kept) new t p))) in
         let x = length-append (texts_of kept) new in
         let y = length-texts kept in
         gives_exist bits new kept new_apart (λ t q. code_kept (told ++ needed) before t (without_from before needed t q).1) (λ one. omega arith)
       where
-        split : (xs ys : List Text) (t : Text) → Has (xs ++ ys) t → Has xs t ⊎ Has ys t
-        split [] ys t h = inr h
-        split (u ∷ xs) ys t (inl e) = inl (inl e)
-        split (u ∷ xs) ys t (inr h) = ⊎_elim (λ p. inl (inr p)) (λ p. inr p) (split xs ys t h)
-
         either_has : (kept : Pairs) (t : Text) → Has (texts_of (keep (told ++ needed) before)) t ⊎ Has new t → Has (told ++ needed) t
         either_has kept t (inl p) = kept_in (told ++ needed) before t p
         either_has kept t (inr q) = has_right told needed t (without_from before needed t q).0

@@ -1,5 +1,5 @@
 -- The trees that the operation rows make by plain recursions are what the rows ask for.
-use Rattle.std.proofs.Common.{◌≡◌, ◌≢◌, ℕ, zero, suc, ◌+◌, ◌-◌, ◌*◌, ◌^◌, ◌<◌, ◌≤◌, ◌⊎◌, ◌↔◌, inl, inr, ⊎_elim, refl, sym, ap, ◌∙◌, subst, arith, List, [], ◌∷◌, ◌++◌, length, Bool, true, false, ◌&&◌, IsTrue, not, Option, Some, None}
+use Rattle.std.proofs.Common.{◌≡◌, ℕ, zero, suc, ◌+◌, ◌-◌, ◌*◌, ◌^◌, ◌<◌, ◌≤◌, ◌⊎◌, ◌↔◌, inl, inr, refl, sym, ap, ◌∙◌, subst, arith, List, [], ◌∷◌, ◌++◌, Bool, true, false, IsTrue, not, Option, Some, None}
 use Rattle.std.specs.Prelude.{if◌then◌else◌, unwrap_or, MatchBool}
 use Rattle.std.specs.List.{AllByRecursion, last_or}
 use Rattle.std.specs.Option.{option_and_then}
@@ -12,18 +12,17 @@ use Rattle.subformulas.specs.declared.table.Kind.TheVariants as kind
 use Rattle.subformulas.specs.Table.{is_timed}
 use Rattle.subformulas.specs.Memory.{is_temporal}
 use Rattle.subformulas.specs.Needs.{given, fits}
-use Rattle.subformulas.proofs.Agree.{same, joined}
+use Rattle.subformulas.proofs.Agree.{joined}
 use Rattle.value_codes.specs.Pairs.{Pairs, code_of}
 use Rattle.value_codes.proofs.Lookups.{some_none}
-use Rattle.node_tree.specs.Tree.{Tree, Zero, One, join, IsOrdered, IsReduced, value}
+use Rattle.node_tree.specs.Tree.{Tree, Zero, join, IsOrdered, IsReduced}
 use Rattle.node_tree.proofs.Same.{join_reduced}
 use Rattle.bdd_ops.specs.declared.op.Op.{Op}
 use Rattle.bdd_ops.specs.declared.op.Op.TheVariants.{And, Or, AndNot, Implies, Iff}
 use Rattle.bdd_ops.specs.declared.literals.Literal.{Literal}
 use Rattle.bdd_ops.specs.Numbers.{truth_of}
-use Rattle.bdd_ops.specs.Apply.{map_leaves, apply_tree}
+use Rattle.bdd_ops.specs.Apply.{map_leaves}
 use Rattle.bdd_ops.specs.Cube.{literal_tree, cube_tree, all_hold, AscendFrom}
-use Rattle.bdd_ops.specs.Level.{at_level, merged}
 use Rattle.bdd_ops.proofs.Values.{map_leaves-value, map_leaves-ordered, map_leaves-reduced, apply-value, apply-ordered, apply-reduced}
 use Rattle.bdd_ops.proofs.LevelLaws.{at_level-ordered, at_level-reduced}
 use Rattle.bdd_ops.proofs.Cubes.{cube-value, cube-ordered}
@@ -31,11 +30,11 @@ use Rattle.quantify.specs.Quantified.{connective, quantified, after_rows, merge_
 use Rattle.quantify.proofs.Quantifying.{quantified-is, quantified-value}
 use Rattle.monitor_step.specs.Drawn.{spelled}
 use Rattle.monitor_step.specs.Operations.{IsApplied, IsNot, IsSomeOfBlock, IsEachOfBlock, IsAtomCube, IsRow}
-use Rattle.monitor_step.specs.Blocks.{IsOverBit, AreRows, code_literals}
+use Rattle.monitor_step.specs.Blocks.{IsOverBit, AreRows}
 use Rattle.monitor_step.specs.Rows.{event_code, block_literals, event_literals, atom_tree, applied, block_rows, rows_of_kind, result_of}
 use Rattle.monitor_step.proofs.Pairing.{by_if}
 use Rattle.monitor_step.proofs.Rows.{and_iff}
-use Rattle.monitor_step.proofs.Blocks.{some_of_block, each_of_block, all_hold-append, code_holds, LevelsBelow, below_append, below_weaken, ascend_weaken, ascend_append, code_below, code_ascends}
+use Rattle.monitor_step.proofs.Blocks.{some_of_block, each_of_block, all_hold-append, code_holds, LevelsBelow, below_append, below_weaken, ascend_append, code_below, code_ascends}
 
 -- ordered and reduced
 abbrev pub IsDiagram : Tree → Type 0

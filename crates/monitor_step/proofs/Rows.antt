@@ -26,7 +26,7 @@ drawn_once P s t x y =
 pub draws_same : (P Q : List Bool → Type 0) (t : Tree) → ((bits : List Bool) → P bits ↔ Q bits) → Draws P t → Draws Q t
 draws_same P Q t h d = record { ordered = d.ordered; reduced = d.reduced; values = λ bits. joined (d.values bits) (h bits) }
 
-never : {A : Type 0} → false ≡ true → A
+pub never : {A : Type 0} → false ≡ true → A
 never e = cc
 
 pub and_iff : (a b : Bool) (P Q : Type 0) → (IsTrue a ↔ P) → (IsTrue b ↔ Q) → IsTrue (a && b) ↔ (P × Q)

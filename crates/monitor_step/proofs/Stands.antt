@@ -1,6 +1,6 @@
 -- One event keeps what the monitor stands for.
 use Rattle.std.proofs.Common.{◌≡◌, ◌≢◌, ℕ, zero, suc, ◌+◌, ◌-◌, ◌*◌, ◌^◌, ◌<◌, ◌≤◌, ◌↔◌, refl, sym, ap, ◌∙◌, subst, arith, List, [], length, Bool, true, false, ◌||◌, not, Option, Some, None, IsTrue}
-use Rattle.std.specs.Prelude.{map, slice_get, IsSomeAnd, unwrap_or, MatchBool, if◌then◌else◌}
+use Rattle.std.specs.Prelude.{map, slice_get, IsSomeAnd, unwrap_or, MatchBool}
 use Rattle.std.proofs.lemmas.Option.{slice_get_within}
 use Rattle.qtl_syntax.specs.Tree.{Text}
 use Rattle.qtl_truth.specs.declared.event.Event.{Event}
@@ -10,7 +10,7 @@ use Rattle.subformulas.specs.declared.table.Kind.TheVariants as kind
 use Rattle.subformulas.specs.declared.table.Sub.{Sub}
 use Rattle.wellformed.specs.CoreTree.{CoreFormula, Atom, Prev}
 use Rattle.subformulas.specs.Assigned.{Texts, put, text_of, Truth}
-use Rattle.subformulas.specs.Table.{children, AreChildren, IsChild, UsesBelow, is_timed}
+use Rattle.subformulas.specs.Table.{children, AreChildren, IsChild, UsesBelow}
 use Rattle.subformulas.specs.Unfolded.{formula_at, formula_with}
 use Rattle.subformulas.specs.Memory.{is_temporal, IsTemporal, Memo, memo_at, Has, arguments, fresh}
 use Rattle.subformulas.specs.Needs.{given, fits, need, needed_by}
@@ -20,7 +20,7 @@ use Rattle.subformulas.proofs.Fresh.{fresh_new}
 use Rattle.subformulas.proofs.Step.{truth_same}
 use Rattle.subformulas.proofs.Needed.{given_is, given_occurs, true_from, matches_from, matched_needed, in_need}
 use Rattle.subformulas.proofs.Unfold.{children_at, unfolds, by_some, get_some}
-use Rattle.subformulas.proofs.ByNumber.{all_at, none_at}
+use Rattle.subformulas.proofs.ByNumber.{all_at}
 use Rattle.subformulas.proofs.Plain.{plain_truth, need_argument, some_is}
 use Rattle.subformulas.proofs.Decide.{fresh_text}
 use Rattle.subformulas.proofs.Below.{TermsBelow, truth_below, all_below, each_atom_below}
@@ -29,19 +29,17 @@ use Rattle.subformulas.proofs.Below.{AtomBelow}
 use Rattle.node_tree.specs.Tree.{Tree, Zero, One, value}
 use Rattle.value_codes.specs.Pairs.{Pairs, code_of, value_of}
 use Rattle.value_codes.proofs.Lookups.{code_reads, reads_code}
-use Rattle.bdd_ops.specs.declared.op.Op.TheVariants.{And, Or, AndNot, Implies, Iff}
+use Rattle.bdd_ops.specs.declared.op.Op.TheVariants.{Iff}
 use Rattle.bdd_ops.specs.Numbers.{truth_of}
 use Rattle.monitor_step.specs.Books.{reads, IsBook}
 use Rattle.monitor_step.specs.Drawn.{Draws, spelled, readings}
 use Rattle.monitor_step.specs.Operations.{IsApplied, IsAtomCube, IsRow, remembered}
 use Rattle.monitor_step.specs.Stands.{IsNow, IsKept, StandsFor, IsPlan, AreTexts, Stepped, IsPoint, first_memory}
-use Rattle.monitor_step.proofs.Rows.{draws_same, draws_and, draws_or, draws_not, draws_since, draws_once, draws_always, draws_interval}
+use Rattle.monitor_step.proofs.Rows.{never, draws_same, draws_and, draws_or, draws_not, draws_since, draws_once, draws_always, draws_interval}
+use Rattle.monitor_step.proofs.Pairing.{ones_free}
 use Rattle.monitor_step.proofs.Reuse.{kept_draws}
 use Rattle.monitor_step.proofs.Books.{IsSound, sound, sound_next, next_readings, needed_coded, uncoded_plain}
 use Rattle.monitor_step.proofs.Quantified.{draws_exists, draws_forall}
-
-never : {A : Type 0} → false ≡ true → A
-never e = cc
 
 implies_iff : (a b : Bool) (P Q : Type 0) → (IsTrue a ↔ P) → (IsTrue b ↔ Q) → IsTrue (not a || b) ↔ (P → Q)
 implies_iff true b P Q p q = (λ h x. q.0 h, λ f. q.1 (f (p.0 refl)))
@@ -94,9 +92,8 @@ module _ (bits variables : ℕ) (subs : List Sub) (log : List Event) (plan : IsP
   -- each remembered tree, drawn with the new books, is the same tree
   pub kept : (k : ℕ) → IsTemporal subs k → Draws (λ b. memo_at subs k log (readings books (fresh log (i + 1)) bits b) i) (memory k)
   kept k h =
-      kept_draws subs plan.table log i bits variables before books
-      (λ x p. next_readings bits subs plan.table log x bytes i e at (step.told x) (step.told_is x p) (before x) (was_sound x p) (books x) (step.next x p))
-      (λ x p. stands.no_more x p ∙ sym (step.no_more x p)) k h (memory k) (stands.memory_is k h)
+      kept_draws variables subs plan log i bits before books
+      (λ x p. next_readings bits subs plan.table log x bytes i e at (step.told x) (step.told_is x p) (before x) (was_sound x p) (books x) (step.next x p)) k h (memory k) (stands.memory_is k h)
 
   -- a text without a code makes each subformula true as a fresh one does
   unread : (x : ℕ) → x < variables → (k : ℕ) → 1 ≤ k → k ≤ length subs → (t : Text) (mu : Texts) → code_of (books x) t ≡ None →
@@ -257,10 +254,6 @@ module _ (bits variables : ℕ) (subs : List Sub) (log : List Event) (plan : IsP
     now_is = λ one k p q. now_stands k p q;
   }
 
-  ones_free : (x : ℕ) → x < variables → (o : Option Text) → value_of (books x) (2 ^ bits - 1) ≡ o → o ≡ None
-  ones_free x p None f = refl
-  ones_free x p (Some u) f = absurd (let h = (is_sound x p).below (2 ^ bits - 1) u f in omega arith)
-
   -- the trees of the event give the truth at each assignment
   pub now_point : (k : ℕ) (mu : Texts) (b : List Bool) → 1 ≤ k → k ≤ length subs → IsPoint bits variables books mu b → IsTrue (value (now k) b) ↔ Truth log (formula_at subs k) mu (i + 1)
   now_point k mu b one most point =
@@ -277,7 +270,7 @@ module _ (bits variables : ℕ) (subs : List Sub) (log : List Event) (plan : IsP
           subst (λ t. Truth log (formula_at subs k) (put x (mu x) z) (i + 1) ↔ Truth log (formula_at subs k) (put x t z) (i + 1)) (sym r) same
       at_code x p z None f s =
           let r : reads (books x) (fresh log (i + 1)) (spelled b (x * bits) bits) ≡ fresh log (i + 1) =
-          ap (λ o. unwrap_or o (fresh log (i + 1))) (ap (value_of (books x)) s ∙ ones_free x p (value_of (books x) (2 ^ bits - 1)) refl) in
+          ap (λ o. unwrap_or o (fresh log (i + 1))) (ap (value_of (books x)) s ∙ ones_free bits (books x) (is_sound x p).below) in
           subst (λ t. Truth log (formula_at subs k) (put x (mu x) z) (i + 1) ↔ Truth log (formula_at subs k) (put x t z) (i + 1)) (sym r) (unread x p k one most (mu x) z f)
 
 memo_first : (K : Kind) (f g : CoreFormula) (log : List Event) (mu : Texts) → IsTrue (is_temporal K) → IsTrue (value (first_memory K) []) ↔ Memo log (formula_with K f g) mu 0

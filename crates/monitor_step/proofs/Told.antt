@@ -1,56 +1,39 @@
 -- What the trees tell apart is told apart; and the trees give the truth at each assignment.
-use Rattle.std.proofs.Common.{◌≡◌, ◌≢◌, ℕ, zero, suc, ◌-◌, ◌*◌, ◌^◌, ◌<◌, ◌≤◌, ◌⊎◌, ◌↔◌, inl, inr, refl, sym, ap, ◌∙◌, subst, arith, List, [], length, Bool, true, false, Option, Some, None, IsTrue}
+use Rattle.std.proofs.Common.{◌≡◌, ◌≢◌, ℕ, zero, suc, ◌-◌, ◌*◌, ◌^◌, ◌<◌, ◌≤◌, ◌⊎◌, ◌↔◌, inl, inr, refl, sym, ap, ◌∙◌, subst, arith, List, [], Bool, true, false, Option, Some, None, IsTrue}
 use Rattle.std.specs.Prelude.{unwrap_or, nat_eq}
 use Rattle.std.proofs.lemmas.Nat.{pow_pos}
 use Rattle.std.proofs.lemmas.Bool.{cases_lt}
 use Rattle.std.proofs.lemmas.Bool.Decides.{eqb_tells}
-use Rattle.std.proofs.lemmas.Option.{slice_get_within}
 use Rattle.qtl_syntax.specs.Tree.{Text}
 use Rattle.qtl_truth.specs.declared.event.Event.{Event}
 use Rattle.subformulas.specs.declared.table.Sub.{Sub}
 use Rattle.subformulas.specs.Assigned.{Texts, put}
-use Rattle.subformulas.specs.Unfolded.{formula_at}
-use Rattle.subformulas.specs.Memory.{IsTemporal, memo_at, fresh, Told, Differ, SameMemory}
+use Rattle.subformulas.specs.Memory.{IsTemporal, fresh, Told, Differ, SameMemory}
 use Rattle.subformulas.proofs.Agree.{same}
-use Rattle.subformulas.proofs.Unfold.{temporal_at, by_some}
-use Rattle.subformulas.proofs.Below.{memo_below, all_below, each_atom_below}
 use Rattle.node_tree.specs.Tree.{Tree, value}
-use Rattle.value_codes.specs.Pairs.{Pairs, code_of, value_of}
+use Rattle.value_codes.specs.Pairs.{Pairs, code_of}
 use Rattle.value_codes.proofs.Lookups.{Tells, code_reads}
 use Rattle.monitor_step.specs.Books.{reads}
 use Rattle.monitor_step.specs.Drawn.{spelled, readings}
 use Rattle.monitor_step.specs.Operations.{SameOutside}
 use Rattle.monitor_step.specs.Stands.{IsKept, IsPlan, ToldByTrees}
-use Rattle.monitor_step.proofs.Reuse.{memo_same}
+use Rattle.monitor_step.proofs.Pairing.{ones_free}
+use Rattle.monitor_step.proofs.Reuse.{memo_same, memo_point}
 use Rattle.monitor_step.proofs.Books.{IsSound}
 use Rattle.monitor_step.proofs.Bits.{spell, readings_other}
 
-pub within : (subs : List Sub) (k : ℕ) → IsTemporal subs k → k ≤ length subs
-within subs k h = let (s, g, t) = by_some _ _ h.1 in let q = slice_get_within subs (k - 1) s g in let one = h.0 in omega arith
-
 module _ (bits variables : ℕ) (subs : List Sub) (log : List Event) (plan : IsPlan variables subs) (i : ℕ) (books : ℕ → Pairs)
     (sound : (x : ℕ) → x < variables → IsSound bits subs log x i (books x)) where
-  -- the memory at an assignment is that at the texts that some codes read as
-  pub memo_point : (k : ℕ) → IsTemporal subs k → (nu nu' : Texts) → ((x : ℕ) → x < variables → SameMemory subs log x i (nu x) (nu' x)) → memo_at subs k log nu i ↔ memo_at subs k log nu' i
-  memo_point k h nu nu' s =
-      all_below (λ mu. memo_at subs k log mu i) (memo_same subs plan.table log i k h) nu nu' variables
-      (λ mu mu' e. memo_below log variables (formula_at subs k) (each_atom_below variables subs plan.table.table plan.uses k h.0 (within subs k h)) (temporal_at subs k plan.table.table h) mu mu' e i)
-      (λ x p mu. s x p k mu h)
-
   -- a code that a text reads like
   like_code : (x : ℕ) → x < variables → (t : Text) → (c : ℕ) × (c < 2 ^ bits) × SameMemory subs log x i t (reads (books x) (fresh log i) c)
   like_code x p t = by_code (code_of (books x) t) refl
     where
-      ones_free : (o : Option Text) → value_of (books x) (2 ^ bits - 1) ≡ o → o ≡ None
-      ones_free None e = refl
-      ones_free (Some u) e = absurd (let h = (sound x p).below (2 ^ bits - 1) u e in omega arith)
-
       by_code : (o : Option ℕ) → code_of (books x) t ≡ o → (c : ℕ) × (c < 2 ^ bits) × SameMemory subs log x i t (reads (books x) (fresh log i) c)
       by_code (Some c) e =
           let v = code_reads (books x) t c (sound x p).paired e in
           (c, (let h = (sound x p).below c t v in omega arith), subst (λ o. SameMemory subs log x i t (unwrap_or o (fresh log i))) (sym v) (λ k nu h. same))
       by_code None e =
-          (2 ^ bits - 1, (let h = pow_pos bits in omega arith), subst (λ o. SameMemory subs log x i t (unwrap_or o (fresh log i))) (sym (ones_free (value_of (books x) (2 ^ bits - 1)) refl)) ((sound x p).plain t e))
+          (2 ^ bits - 1, (let h = pow_pos bits in omega arith), subst (λ o. SameMemory subs log x i t (unwrap_or o (fresh log i))) (sym (ones_free bits (books x) (sound x p).below)) ((sound x p).plain t e))
 
   -- bits that spell, for each variable below v, a code that reads like its text
   point : (nu : Texts) (v : ℕ) → v ≤ variables → (b : List Bool) × ((x : ℕ) → x < v → SameMemory subs log x i (nu x) (readings books (fresh log i) bits b x))
@@ -92,9 +75,8 @@ module _ (bits variables : ℕ) (subs : List Sub) (log : List Event) (plan : IsP
       by_test (inl q) = rw q.0 (e ∙ ap mu q.1)
       by_test (inr q) = rw q.0 (h y (λ z. q.1 (sym z)))
 
-  ones_read : (x : ℕ) → x < variables → (o : Option Text) → value_of (books x) (2 ^ bits - 1) ≡ o → unwrap_or o (fresh log i) ≡ fresh log i
-  ones_read x p None e = refl
-  ones_read x p (Some u) e = absurd (let h = (sound x p).below (2 ^ bits - 1) u e in omega arith)
+  ones_read : (x : ℕ) → x < variables → reads (books x) (fresh log i) (2 ^ bits - 1) ≡ fresh log i
+  ones_read x p = ap (λ o. unwrap_or o (fresh log i)) (ones_free bits (books x) (sound x p).below)
 
   put_memory : (x : ℕ) (t : Text) (nu mu : Texts) → SameMemory subs log x i t (mu x) → ((y : ℕ) → y < variables → y ≢ x → SameMemory subs log y i (nu y) (mu y)) →
       (y : ℕ) → y < variables → SameMemory subs log y i (put x t nu y) (mu y)
@@ -120,7 +102,7 @@ module _ (bits variables : ℕ) (subs : List Sub) (log : List Event) (plan : IsP
         let mu = readings books f bits other in
         let m = drawn k h in
         let here : t ≡ nu x = sym reads_c ∙ ap (reads (books x) f) (sym s) in
-        let there : f ≡ mu x = sym (ones_read x low (value_of (books x) (2 ^ bits - 1)) refl) ∙ ap (reads (books x) f) (sym ones) in (
+        let there : f ≡ mu x = sym (ones_read x low) ∙ ap (reads (books x) f) (sym ones) in (
           k,
           nu,
           h,
@@ -138,7 +120,7 @@ module _ (bits variables : ℕ) (subs : List Sub) (log : List Event) (plan : IsP
         let (other, o', ones) = spell (x * bits) bits (2 ^ bits - 1) b (let q = pow_pos bits in omega arith) in
         let m = drawn k h in
         let here : t ≡ readings books f bits b x = sym reads_c ∙ ap (reads (books x) f) (sym s) in
-        let there : f ≡ readings books f bits other x = sym (ones_read x low (value_of (books x) (2 ^ bits - 1)) refl) ∙ ap (reads (books x) f) (sym ones) in (
+        let there : f ≡ readings books f bits other x = sym (ones_read x low) ∙ ap (reads (books x) f) (sym ones) in (
           k,
           b,
           other,
@@ -148,10 +130,10 @@ module _ (bits variables : ℕ) (subs : List Sub) (log : List Event) (plan : IsP
           ones,
           differ_values (value (memory k) b) (value (memory k) other) _ _ (m.values b) (m.values other)
               (differ_like
-              (memo_point k h (put x t nu) (readings books f bits b)
+              (memo_point variables subs plan log i k h (put x t nu) (readings books f bits b)
               (put_memory x t nu (readings books f bits b) (subst (λ z. SameMemory subs log x i t z) here (λ j w q. same))
               (λ y p n. subst (λ z. SameMemory subs log y i (nu y) z) (sym (readings_other books f bits x y b0 b o n)) (s0 y p))))
-              (memo_point k h (put x f nu) (readings books f bits other)
+              (memo_point variables subs plan log i k h (put x f nu) (readings books f bits other)
               (put_memory x f nu (readings books f bits other) (subst (λ z. SameMemory subs log x i f z) there (λ j w q. same))
               (λ y p n. subst (λ z. SameMemory subs log y i (nu y) z) (sym (readings_other books f bits x y b other o' n ∙ readings_other books f bits x y b0 b o n)) (s0 y p))))
               d),

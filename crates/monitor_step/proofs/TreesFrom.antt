@@ -1,5 +1,5 @@
 -- The trees of an event, made one after the other, are those of its rows.
-use Rattle.std.proofs.Common.{◌≡◌, ◌≢◌, ℕ, zero, suc, ◌+◌, ◌-◌, ◌*◌, ◌^◌, ◌<◌, ◌≤◌, refl, sym, ap, ◌∙◌, subst, arith, List, [], ◌∷◌, ◌++◌, length, length-append, append-nil, append_assoc, Bool, true, false, IsTrue, Some}
+use Rattle.std.proofs.Common.{◌≡◌, ℕ, zero, suc, ◌+◌, ◌-◌, ◌^◌, ◌<◌, ◌≤◌, refl, sym, ap, ◌∙◌, subst, arith, List, [], ◌∷◌, ◌++◌, length, length-append, append-nil, append_assoc, IsTrue, Some}
 use Rattle.std.specs.Prelude.{slice_get, slice_index_or}
 use Rattle.std.specs.List.{AllByRecursion}
 use Rattle.std.proofs.Math.ListN.{get_or-append}
@@ -18,7 +18,7 @@ use Rattle.subformulas.proofs.Plain.{some_is}
 use Rattle.value_codes.specs.Pairs.{Pairs, code_of}
 use Rattle.node_tree.specs.Tree.{Tree, Zero}
 use Rattle.monitor_step.specs.Operations.{IsRow}
-use Rattle.monitor_step.specs.Rows.{atom_tree, rows_of_kind, result_of, tree_at, rows_after, tree_after, trees_from}
+use Rattle.monitor_step.specs.Rows.{atom_tree, rows_of_kind, result_of, tree_at, tree_after, trees_from}
 use Rattle.monitor_step.proofs.RowTrees.{IsDiagram, with_last, row_is, rows_diagrams, result_diagram}
 
 -- a kind's rows depend on the children that the kind has

@@ -1,10 +1,8 @@
--- A block's quantifier as one row a bit, and the cube of codes as literals.
-use Rattle.std.specs.Prelude.{◌≡◌, ℕ, zero, suc, ◌+◌, ◌*◌, ◌/◌, ◌%◌, ◌↔◌, List, [], ◌∷◌, ◌++◌, Bool, true, false, IsTrue, nat_eq}
-use Rattle.std.specs.List.{flat_map}
+-- A block's quantifier as one row a bit, and a code as literals.
+use Rattle.std.specs.Prelude.{◌≡◌, ℕ, zero, suc, ◌+◌, ◌/◌, ◌%◌, List, [], ◌∷◌, ◌++◌, Bool, true, false, nat_eq}
 use Rattle.node_tree.specs.Tree.{Tree, IsOrdered, IsReduced, value}
 use Rattle.node_tree.specs.Restrict.{with_bit}
 use Rattle.bdd_ops.specs.declared.literals.Literal.{Literal}
-use Rattle.bdd_ops.specs.Cube.{all_hold}
 
 -- an operation on the tree with a bit false and the tree with it true
 pub record IsOverBit (op : Bool → Bool → Bool) (level : ℕ) (h result : Tree) : Type 0 where
@@ -25,13 +23,3 @@ literal_at level bit = record { level = level; bit = bit }
 abbrev pub code_literals : (first n code : ℕ) → List Literal
 code_literals first zero c = []
 code_literals first (suc n) c = code_literals first n (c / 2) ++ literal_at (first + n) (nat_eq (c % 2) 1) ∷ []
-
--- the result is true where the literals hold
-pub record IsCube (literals : List Literal) (result : Tree) : Type 0 where
-  pub ordered : IsOrdered result
-  pub reduced : IsReduced result
-  pub values : (bits : List Bool) → value result bits ≡ all_hold literals bits
-
--- the literals of codes of variables
-abbrev pub codes_literals : (width : ℕ) → List (ℕ × ℕ) → List Literal
-codes_literals width codes = flat_map (λ p. code_literals (p.0 * width) width p.1) codes

@@ -40,7 +40,7 @@ FreshAlike = (subs : List Sub) (log : List Event) (x i : ℕ) (s t : Text) → I
 abbrev pub ToldIsArgument : Type 0
 ToldIsArgument = (subs : List Sub) (log : List Event) (x i : ℕ) (t : Text) → IsUntimedTable subs → Told subs log x i t → Has (arguments log i) t
 
--- a text is told apart or plain, and not both
+-- a text is plain exactly where it isn't told apart
 abbrev pub UntoldIsPlain : Type 0
 UntoldIsPlain = (subs : List Sub) (log : List Event) (x i : ℕ) (t : Text) → IsUntimedTable subs → (¬ Told subs log x i t) ↔ IsPlain subs log x i t
 

@@ -37,7 +37,7 @@ pub fn told_is_argument()
     ensures { ToldIsArgument }
 {}
 
-/// A text is told apart or remembered as a fresh one is, and not both.
+/// A text is remembered as a fresh one is exactly where it isn't told apart.
 pub fn untold_is_plain()
     ensures { UntoldIsPlain }
 {}
