@@ -21,3 +21,4 @@ pub mod Decided
 pub mod ServingTexts
 pub mod ServingGives
 pub mod Serving
+pub mod ServingAll

@@ -25,7 +25,7 @@ own_text : (b : Bool) (x : ℕ) (n : Need) (t : Text) → nat_eq x n.variable �
 own_text true x n t e same = refl
 own_text false x n t e same = absurd (let never : ⊥ = grind (arith, nat_tests) in never)
 
-no_text : (b : Bool) (x : ℕ) (n : Need) (t : Text) → nat_eq x n.variable ≡ b → (n.variable ≡ x → ⊥) → (if b then t ∷ [] else []) ≡ []
+pub no_text : (b : Bool) (x : ℕ) (n : Need) (t : Text) → nat_eq x n.variable ≡ b → (n.variable ≡ x → ⊥) → (if b then t ∷ [] else []) ≡ []
 no_text true x n t e other = let same : n.variable ≡ x = grind (arith, nat_tests) in absurd (other same)
 no_text false x n t e other = refl
 

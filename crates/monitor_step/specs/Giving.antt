@@ -4,6 +4,8 @@ use Rattle.qtl_syntax.specs.Tree.{Text}
 use Rattle.value_codes.specs.Pairs.{Pairs, code_of, IsPaired, IsLeastFree, Adds}
 use Rattle.monitor_step.specs.declared.codes.CodesEnd.{CodesEnd}
 use Rattle.monitor_step.specs.declared.codes.CodesEnd.TheVariants as codes
+use Rattle.monitor_step.specs.declared.codes.ServeEnd.{ServeEnd}
+use Rattle.monitor_step.specs.declared.codes.ServeEnd.TheVariants as serve
 use Rattle.monitor_step.specs.Books.{Gives, SameCodes, without_code}
 
 -- a code in front of others, where there is one
@@ -36,3 +38,8 @@ GivesOne bits t before after = GivesTo bits t before after (code_of before t)
 -- of each book of the definition with the same codes as before, the texts without a code make one with the same codes as after
 abbrev pub GivesAll : (bits : ℕ) → List Text → (before after : Pairs) → Type 0
 GivesAll bits ts before after = (book : Pairs) → IsPaired book → SameCodes before book → (next : Pairs) × Gives bits (without_code before ts) book next × SameCodes after next
+
+-- the end of an event at a variable that could not be served
+abbrev pub end_at : ℕ → CodesEnd → ServeEnd
+end_at x (codes.CodesFull need) = serve.CodesFull x need
+end_at x codes.NoMemory = serve.NoMemory
