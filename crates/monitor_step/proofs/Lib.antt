@@ -18,5 +18,9 @@ pub mod Told
 pub mod Stands
 pub mod Verdict
 pub mod Decided
+pub mod ServingTexts
+pub mod ServingGives
+pub mod Serving
+pub mod ServingAll
 pub mod AtomRows
 pub mod KindRows

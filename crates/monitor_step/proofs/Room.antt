@@ -15,6 +15,7 @@ use Rattle.value_codes.specs.Pairs.{Pairs, code_of, value_of, IsLeastFree, IsPai
 use Rattle.value_codes.proofs.Lookups.{Tells, texts_tell, some_none}
 use Rattle.monitor_step.specs.Serving.{AllApart}
 use Rattle.monitor_step.specs.Books.{Gives, keep, without_code, free_count, IsNextBook}
+use Rattle.monitor_step.specs.Serving.{AllApart}
 use Rattle.monitor_step.proofs.Pairing.{any_has, by_if, paired_kept, code_kept, without_from}
 
 remove : Text → List Text → List Text

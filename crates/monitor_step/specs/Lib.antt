@@ -7,4 +7,5 @@ pub mod Stands
 pub mod Ends
 pub mod Laws
 pub mod Serving
+pub mod Giving
 pub mod Answers

@@ -1,6 +1,6 @@
 //! The codes of an event's texts: each variable is served, in order.
 
-ghost use Rattle.std.specs.Prelude.{◌≡◌, ◌≢◌, ℕ, ◌+◌, ◌*◌, ◌-◌, ◌^◌, ◌<◌, ◌≤◌, [], None, length, map, IsOk, OnOk, MatchResult};
+ghost use Rattle.std.specs.Prelude.{◌≡◌, ◌≢◌, ℕ, ◌+◌, ◌*◌, ◌-◌, ◌^◌, ◌<◌, ◌≤◌, [], None, length, map, take, drop, IsOk, OnOk, MatchResult};
 ghost use Rattle.std.specs.List.{AllByRecursion};
 ghost use Rattle.qtl_syntax.specs.Tree.{Text as TheText};
 ghost use Rattle.node_table.specs.Table.{tree_of, KeepsTrees};
@@ -10,7 +10,7 @@ ghost use Rattle.subformulas.specs.Memory.{Has};
 ghost use Rattle.subformulas.specs.NeedList.{EntryArgsBelow, AreByVariable, texts_for};
 ghost use Rattle.code_reclaim.specs.Swept.{stays, Keeps};
 ghost use Rattle.monitor_step.specs.Books.{without_code};
-ghost use Rattle.monitor_step.specs.Giving.{codes_in, GivesAll, GivesOne, TakesTooMany};
+ghost use Rattle.monitor_step.specs.Giving.{codes_in, end_at, GivesAll, GivesOne, TakesTooMany};
 ghost use Rattle.monitor_step.specs.Serving.{AllApart, AreServed, IsCodesEnd, IsServed, IsServeEnd, pairs_at};
 
 use code_reclaim::sweep;
@@ -213,6 +213,31 @@ fn serve_variable<L: Ledger>(
     Ok(())
 }
 
+/// How many entries stand before those of later variables.
+fn count_before(entries: &[Need], variable: u32) -> usize
+    requires { AreByVariable entries.now }
+    ensures within { result ≤ length entries.now }
+    ensures front { AllByRecursion (λ n. n.variable ≤ variable) (take result entries.now) }
+    ensures back { AllByRecursion (λ n. variable < n.variable) (drop result entries.now) }
+{
+    for (place, entry) in entries.iter().enumerate() {
+        if variable < entry.variable {
+            return place;
+        }
+    }
+    entries.len()
+}
+
+/// The end of an event at a variable that could not be served.
+fn end_at(variable: u32, end: CodesEnd) -> ServeEnd
+    ensures { result ≡ end_at variable end }
+{
+    match end {
+        CodesEnd::CodesFull { need } => ServeEnd::CodesFull { variable, need },
+        CodesEnd::NoMemory => ServeEnd::NoMemory,
+    }
+}
+
 /// Serves the variables in order; the block of variable x has the levels from x times the number of bits on. After an
 /// error the books may hold any part of the event's codes.
 pub fn serve_all<L: Ledger>(
@@ -238,12 +263,37 @@ pub fn serve_all<L: Ledger>(
     ensures no_memory { ((x : ℕ) (t : TheText) → x < length books.old → Has (texts_for x event.now.args entries.now) t → code_of (pairs_at books.old x) t ≢ None) → IsOk result }
     ensures count { length books.new ≡ length books.old }
     ensures bits { AllByRecursion (λ b. b.bits ≡ bits) books.new }
-    ensures sound { AllByRecursion IsBook books.new }
+    ensures sound { OnOk result (AllByRecursion IsBook books.new) }
     ensures room { table.new.room ≡ table.old.room }
     ensures nodes { table.new.nodes ≡ table.old.nodes }
     ensures kept { KeepsTrees table.old table.new }
     ensures cost { steps.new ≤ steps.old + length books.old * ((2 ^ bits - 1) * ((table.old.room + 2) * (2 * bits + 1))) }
     ensures idle { remembered.now ≡ [] → steps.new ≡ steps.old }
 {
+    let mut left = entries;
+    for (x, book) in books.iter_mut().enumerate() {
+        let _free = book.free_count();
+        let variable = x as u32;
+        let (own, later) = left.split_at(count_before(left, variable));
+        left = later;
+        let block = Block {
+            first: x as u16 * bits as u16,
+            bits,
+        };
+        let served = serve_variable(
+            table,
+            remembered,
+            block,
+            own,
+            variable,
+            event,
+            book,
+            needed_codes,
+            steps,
+        );
+        if let Err(end) = served {
+            return Err(end_at(variable, end));
+        }
+    }
     Ok(())
 }
