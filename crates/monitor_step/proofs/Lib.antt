@@ -24,3 +24,4 @@ pub mod Serving
 pub mod ServingAll
 pub mod AtomRows
 pub mod KindRows
+pub mod EventRows

@@ -9,3 +9,4 @@ pub mod Laws
 pub mod Serving
 pub mod Giving
 pub mod Answers
+pub mod Monitor

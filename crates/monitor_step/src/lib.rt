@@ -5,4 +5,5 @@ mod atom_row;
 pub mod codes;
 mod event_rows;
 pub mod laws;
+mod monitor;
 mod subformula_rows;
