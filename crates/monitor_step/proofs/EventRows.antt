@@ -1,10 +1,13 @@
 -- The rows of one subformula more.
 use Rattle.std.proofs.Common.{◌≡◌, ℕ, zero, suc, ◌+◌, ◌-◌, ◌*◌, ◌<◌, ◌≤◌, ◌⊎◌, inl, inr, ⊎_elim, refl, sym, ap, ◌∙◌, subst, arith, List, [], ◌∷◌, ◌++◌, length, length-append, append_assoc, append-nil, map, take, get_or, Bool, true, false, Some, None, Option, IsTrue}
-use Rattle.std.specs.Prelude.{slice_get, slice_index_or, Result, Ok, Err, if◌then◌else◌}
+use Rattle.std.proofs.Math.Nat.{add-mul, mul-le-mul_right}
+use Rattle.node_table.specs.Collects.{AllValid}
+use Rattle.bdd_ops.proofs.Tries.{same_map}
+use Rattle.std.specs.Prelude.{set, slice_get, slice_index_or, Result, Ok, Err, if◌then◌else◌}
 use Rattle.std.specs.List.{Contains, sum_by}
 use Rattle.std.proofs.lemmas.Bool.{cases_lt}
-use Rattle.std.proofs.lemmas.List.{take_more, get_or_append_left, get_or-append_right, get_or-map, length-take-le}
-use Rattle.std.proofs.lemmas.List.Sums.{count_by_more_yes, count_by_more_no, sum_by-append, sum_by-cons, sum_by-take-le}
+use Rattle.std.proofs.lemmas.List.{take_more, take_more_set, map-append, get_or_append_left, get_or-append_right, get_or-map, length-take-le, length-map}
+use Rattle.std.proofs.lemmas.List.Sums.{count_by_more_yes, count_by_more_no, sum_by-append, sum_by-cons, sum_by-take-le, sum_by_more, sum_by_more_le}
 use Rattle.std.proofs.Math.Seq.{take-append_seam, get_or-append_seam}
 use Rattle.std.proofs.lemmas.Option.{slice_get-get_or, slice_get_within}
 use Rattle.qtl_truth.specs.declared.numbered_atom.Atom.{Atom}
@@ -13,10 +16,10 @@ use Rattle.subformulas.specs.declared.table.Kind.TheVariants as kind
 use Rattle.subformulas.specs.declared.table.Sub.{Sub}
 use Rattle.subformulas.specs.Memory.{is_temporal}
 use Rattle.subformulas.specs.Table.{children, AreChildren, IsTable}
-use Rattle.subformulas.proofs.ByNumber.{first_child, second_child}
+use Rattle.subformulas.proofs.ByNumber.{first_child, second_child, children_within}
 use Rattle.subformulas.proofs.Unfold.{children_at}
 use Rattle.node_tree.specs.Tree.{Tree, Zero}
-use Rattle.node_table.specs.Table.{Table, tree_of}
+use Rattle.node_table.specs.Table.{Table, tree_of, IsValid}
 use Rattle.operation_rows.specs.declared.rows.RowFull.{RowFull}
 use Rattle.operation_rows.specs.Fitting.{row_size, FitTo, MakesRows}
 use Rattle.monitor_step.specs.Answers.{memory_in, temporal_count}
@@ -287,7 +290,7 @@ module _ (bits : ℕ) (cube : Atom → Tree) (subs : List Sub) (M : List Tree) (
       pub rows_are : rows_of_kind bits cube sub.kind (tree_of t f) (tree_of t g) (tree_of t m) ≡ Rows
       rows_are =
           rows_same bits cube sub.kind (tree_of t f) (tree_of t g) _ _ (tree_of t m) (λ o. let b = first_child (k + 1) (children sub.kind) sub.left sub.right kids o in child_tree sub.left f (left b.0) b.0 b.1)
-              (λ o. let b = second_child (k + 1) (children sub.kind) sub.left sub.right kids o in child_tree sub.right g (right b.0) b.0 b.1)
+          (λ o. let b = second_child (k + 1) (children sub.kind) sub.left sub.right kids o in child_tree sub.right g (right b.0) b.0 b.1)
           ∙ memory_same bits cube sub.kind _ _ (tree_of t m) _ memory_tree
 
       pub result_is : result_of sub.kind (tree_of t m) (rows_of_kind bits cube sub.kind (tree_of t f) (tree_of t g) (tree_of t m)) ≡ tree_after bits cube (memory_in subs M) (first_trees (made_from bits cube subs M) k) sub
@@ -301,3 +304,96 @@ module _ (bits : ℕ) (cube : Atom → Tree) (subs : List Sub) (M : List Tree) (
 
       pub memory_root : is_temporal sub.kind ≡ true → Contains (take (R + k) hs) m
       memory_root e = let place = temporal_place subs k sub at e in contains_first hs (R + k) (temporal_count (take k subs)) m (memory e) (omega (arith, place, remembered))
+
+pub index_some : (hs : List ℕ) (i x : ℕ) → i < length hs → x ≡ get_or hs i x → slice_get hs i ≡ Some x
+index_some hs i x l e = slice_get-get_or hs i x l ∙ ap (λ y. Some y) (sym e)
+
+-- the remembered trees are as many as the temporal subformulas
+pub count_trees : (t : Table) (hs : List ℕ) (R n : ℕ) (subs : List Sub) → length hs ≡ R + n → R ≡ temporal_count subs → length (map (tree_of t) (take R hs)) ≡ temporal_count subs
+count_trees t hs R n subs l e = length-map (take R hs) (tree_of t) ∙ (length-take-le R hs (omega (arith, l)) ∙ e)
+
+-- the place after a subformula
+pub place_next : (subs : List Sub) (k n next : ℕ) (sub : Sub) → slice_get subs k ≡ Some sub → next ≡ temporal_count (take k subs) → n ≡ (if is_temporal sub.kind then next + 1 else next) →
+    n ≡ temporal_count (take (k + 1) subs)
+place_next subs k n next sub at e is =
+    elim (is_temporal sub.kind) as (λ b. is_temporal sub.kind ≡ b → n ≡ (if b then next + 1 else next) → n ≡ temporal_count (take (k + 1) subs))
+    [ true ↦ λ t i. (let a = temporal_yes subs k sub at t in omega (arith, a, i, e)) | false ↦ λ t i. (let a = temporal_no subs k sub at t in omega (arith, a, i, e)) ] refl is
+
+-- the places of remembered trees are few
+pub place_few : (subs : List Sub) (k next : ℕ) → next ≡ temporal_count (take k subs) → next ≤ temporal_count subs
+place_few subs k next e = let a = temporal_le subs k in omega (arith, a, e)
+
+-- the subformula of a number, counted from 1
+pub at_back : (subs : List Sub) (k : ℕ) (sub : Sub) → slice_get subs (k + 1 - 1) ≡ Some sub → slice_get subs k ≡ Some sub
+at_back subs k sub e = let b : k + 1 - 1 ≡ k = omega arith in subst (λ (n : ℕ). slice_get subs n ≡ Some sub) b e
+
+pub kids_within : (subs : List Sub) (k : ℕ) (sub : Sub) → IsTable 0 subs → slice_get subs (k + 1 - 1) ≡ Some sub → (sub.left < k + 1) × (sub.right < k + 1)
+kids_within subs k sub table e = children_within (k + 1) (children sub.kind) sub.left sub.right (omega arith) (children_at subs (k + 1) sub table (omega arith) e)
+
+-- the handle at the place of a temporal subformula
+pub memory_handle : (subs : List Sub) (k : ℕ) (sub : Sub) → slice_get subs k ≡ Some sub → (hs : List ℕ) (R n : ℕ) → length hs ≡ R + n → R ≡ temporal_count subs → (place next m : ℕ) →
+    (is_temporal sub.kind ≡ true → place ≡ next) → next ≡ temporal_count (take k subs) → m ≡ get_or hs place m → is_temporal sub.kind ≡ true → slice_get hs (temporal_count (take k subs)) ≡ Some m
+memory_handle subs k sub at hs R n len remembered place next m is e read t =
+    let here : place ≡ temporal_count (take k subs) = is t ∙ e in
+    let low = temporal_place subs k sub at t in
+    subst (λ (i : ℕ). slice_get hs i ≡ Some m) here (index_some hs place m (omega (arith, here, low, len, remembered)) read)
+
+module _ (bits : ℕ) (cube : Atom → Tree) (subs : List Sub) (M : List Tree) (count : length M ≡ temporal_count subs) (k : ℕ) (sub : Sub) (at : slice_get subs k ≡ Some sub) (t new : Table) (roots : List ℕ)
+    (kept : map (tree_of t) roots ≡ M ++ first_trees (made_from bits cube subs M) k) (rows : List Tree) (same : rows ≡ Rows bits cube subs M count k sub at) (made : Tree) (N : ℕ) (room : t.room ≡ N)
+    (before : NodesFit N (made_from bits cube subs M) (k + 1) 0) where
+  moved : (r n : ℕ) → FitTo t.room (map (tree_of t) roots) rows n → FitTo N (M ++ first_trees (made_from bits cube subs M) k) (Rows bits cube subs M count k sub at) n
+  moved r n fit q a b =
+      let h = fit q a b in
+      let e : row_size (map (tree_of t) roots) rows q ≡ row_size (M ++ first_trees (made_from bits cube subs M) k) (Rows bits cube subs M count k sub at) q =
+      ap (λ ts. row_size ts rows q) kept ∙ ap (λ ts. row_size (M ++ first_trees (made_from bits cube subs M) k) ts q) same in
+      omega (arith, h, e, room)
+
+  -- a refused row is the first that doesn't fit
+  pub row_full : (full : RowFull) → MakesRows rows made roots t new (Err full) → IsFirstFull N (made_from bits cube subs M) (k + 1) full.row
+  row_full full m =
+      let (one, most, fit, over) = m.refused in
+      let len = ap length same in
+      let e : row_size (map (tree_of t) roots) rows full.row ≡ row_size (M ++ first_trees (made_from bits cube subs M) k) (Rows bits cube subs M count k sub at) full.row =
+      ap (λ ts. row_size ts rows full.row) kept ∙ ap (λ ts. row_size (M ++ first_trees (made_from bits cube subs M) k) ts full.row) same in
+      full_here bits cube subs M count k sub at N full.row before one (omega (arith, most, len)) (moved 0 (full.row - 1) fit) (omega (arith, over, e, room))
+
+  -- rows that were made fit
+  pub row_done : (h : ℕ) → MakesRows rows made roots t new (Ok h) → NodesFit N (made_from bits cube subs M) (k + 1 + 1) 0
+  row_done h m =
+      fits_more bits cube subs M count k sub at N before
+      (subst (λ (n : ℕ). FitTo N (M ++ first_trees (made_from bits cube subs M) k) (Rows bits cube subs M count k sub at) n) (ap length same) (moved 0 (length rows) m.fit))
+
+  -- and the handle joins those before it
+  pub row_joins : (h : ℕ) → MakesRows rows made roots t new (Ok h) → made ≡ tree_after bits cube (memory_in subs M) (first_trees (made_from bits cube subs M) k) sub → (hs : List ℕ) (place stop : ℕ) → place + 1 ≡ stop → roots ≡ take place hs → place < length hs →
+      AllValid new (take stop (set hs place h)) × (map (tree_of new) (take stop (set hs place h)) ≡ M ++ first_trees (made_from bits cube subs M) (k + 1))
+  row_joins h m is hs place stop end front l =
+      let more : take stop (set hs place h) ≡ roots ++ h ∷ [] = ap (λ (n : ℕ). take n (set hs place h)) (sym end) ∙ take_more_set hs place h l ∙ ap (λ xs. xs ++ h ∷ []) (sym front) in
+      let here : map (tree_of new) (roots ++ h ∷ []) ≡ M ++ first_trees (made_from bits cube subs M) (k + 1) =
+      map-append (tree_of new) roots (h ∷ [])
+      ∙ (ap (λ xs. xs ++ tree_of new h ∷ []) (same_map (tree_of new) (tree_of t) roots (λ j p. (m.roots_stay j p).1) ∙ kept)
+      ∙ (ap (λ x. (M ++ first_trees (made_from bits cube subs M) k) ++ x ∷ []) (m.is ∙ is)
+      ∙ (append_assoc M (first_trees (made_from bits cube subs M) k) (tree_after bits cube (memory_in subs M) (first_trees (made_from bits cube subs M) k) sub ∷ [])
+      ∙ ap (λ xs. M ++ xs) (sym (first_more bits cube subs M count k sub at))))) in
+      (rw more (valid_more roots h (λ j p. (m.roots_stay j p).0) m.valid), rw more here)
+    where
+      valid_more : (xs : List ℕ) (x : ℕ) → AllValid new xs → IsValid new x → AllValid new (xs ++ x ∷ [])
+      valid_more [] x v w zero l = w
+      valid_more [] x v w (suc j) l = absurd (omega (arith, l))
+      valid_more (y ∷ xs) x v w zero l = v 0 (omega arith)
+      valid_more (y ∷ xs) x v w (suc j) l = valid_more xs x (λ i p. v (suc i) (omega (arith, p))) w j (omega (arith, l))
+
+-- the rows counted so far and those of one subformula more
+pub rows_counted : (f : Sub → ℕ) (subs : List Sub) (k : ℕ) (sub : Sub) → slice_get subs k ≡ Some sub → sum_by f (take (k + 1) subs) ≡ sum_by f (take k subs) + f sub
+rows_counted f subs k sub at = sum_by_more f subs k sub (slice_get_within subs k sub at) ∙ ap (λ x. sum_by f (take k subs) + f x) (here_is subs k sub at)
+
+pub rows_most : (f : Sub → ℕ) (subs : List Sub) (k : ℕ) (sub : Sub) → slice_get subs k ≡ Some sub → sum_by f (take k subs) + f sub ≤ sum_by f subs
+rows_most f subs k sub at =
+    let e : sum_by f (take k subs) + f (get_or subs k sub) ≡ sum_by f (take k subs) + f sub = ap (λ x. sum_by f (take k subs) + f x) (here_is subs k sub at) in
+    let l = sum_by_more_le f subs k sub (slice_get_within subs k sub at) in omega (arith, e, l)
+
+-- so many rows, each of which costs no more than n
+pub cost_more : (a b c before now after n : ℕ) → now ≤ before + a * n → after ≤ now + b * n → a + b ≡ c → after ≤ before + c * n
+cost_more a b c before now after n one two e = let m = add-mul a b n in let f : (a + b) * n ≡ c * n = ap (λ (x : ℕ). x * n) e in omega (arith, one, two, m, f)
+
+pub cost_most : (a b c before now after n : ℕ) → now ≤ before + a * n → after ≤ now + b * n → a + b ≤ c → after ≤ before + c * n
+cost_most a b c before now after n one two l = let h = cost_more a b (a + b) before now after n one two refl in let m = mul-le-mul_right n l in omega (arith, h, m)

@@ -1,11 +1,11 @@
-use Rattle.std.proofs.Common.{◌≡◌, ℕ, ◌+◌, ◌*◌, ◌≤◌, ◌++◌, take, map, length}
+use Rattle.std.proofs.Common.{◌≡◌, ◌+◌, ◌*◌, ◌≤◌, ◌++◌, take, map, length}
 use Rattle.std.specs.Prelude.{vec_capacity}
 use Rattle.std.specs.List.{sum_by}
 use Rattle.node_table.specs.Table.{tree_of, IsShared}
 use Rattle.node_table.specs.Collects.{AllValid}
 use Rattle.bdd_ops.specs.Shelf.{handle_pairs, IsLarge}
 use Rattle.subformulas.specs.OperationRows.{rows_of}
-use Rattle.monitor_step.specs.Answers.{memory_in, temporal_count}
+use Rattle.monitor_step.specs.Answers.{temporal_count}
 use Rattle.monitor_step.specs.Ends.{first_trees, NodesFit}
 use Rattle.monitor_step.specs.Rows.{atom_tree}
 use Rattle.monitor_step.specs.Serving.{pairs_at}
