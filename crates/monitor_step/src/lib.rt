@@ -2,6 +2,8 @@
 #![tactic(auto)]
 
 mod codes;
+#[cfg(test)]
+mod codes_tests;
 pub mod laws;
 
 pub use codes::{CodesEnd, ServeEnd, serve_all};
