@@ -2,8 +2,11 @@
 #![tactic(auto)]
 
 mod atom_row;
-pub mod codes;
+mod codes;
 mod event_rows;
 pub mod laws;
 mod monitor;
 mod subformula_rows;
+
+#[cfg(test)]
+mod codes_tests;
