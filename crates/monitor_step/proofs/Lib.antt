@@ -24,3 +24,7 @@ pub mod Serving
 pub mod ServingAll
 pub mod AtomRows
 pub mod KindRows
+pub mod ComposingSame
+pub mod ComposingLists
+pub mod Composing
+pub mod ComposingEvent
