@@ -22,11 +22,12 @@ use Rattle.subformulas.specs.declared.table.Kind.TheVariants as kind
 use Rattle.subformulas.specs.declared.table.Sub.{Sub}
 use Rattle.subformulas.proofs.Unfold.{children_at, unfolds, by_some}
 use Rattle.value_codes.specs.Pairs.{Pairs, Contents}
-use Rattle.monitor_step.specs.Answers.{temporal_count, memory_in, kept_number, AreRemembered, HasTrees}
+use Rattle.monitor_step.specs.Answers.{temporal_count, memory_in, HasTrees}
 use Rattle.monitor_step.specs.Books.{SameCodes}
 use Rattle.monitor_step.specs.Ends.{sources, first_trees, NodesFit, IsEnd}
 use Rattle.monitor_step.specs.Monitor.{State, IsSound, MonitorStands, TreesTell, StepAnswers, variables_of, remembered_of, memory_of, now_of}
 use Rattle.monitor_step.specs.Operations.{remembered}
+use Rattle.monitor_step.specs.Remembers.{source_of, Remembers}
 use Rattle.monitor_step.specs.Rows.{atom_tree, tree_at, trees_from}
 use Rattle.monitor_step.specs.Serving.{AreServed, pairs_at}
 use Rattle.monitor_step.specs.Stands.{StandsFor, AreTexts, Stepped, IsPoint}
@@ -36,15 +37,15 @@ use Rattle.monitor_step.proofs.ComposingSame.{same_fit, same_first}
 use Rattle.monitor_step.proofs.Stands.{step_stands, now_point}
 use Rattle.monitor_step.proofs.Stepping.{stepped}
 
--- what is remembered is the tree of the kept number
-remembered_number : (K : Kind) (now : ℕ → Tree) (left own : ℕ) → now (kept_number K left own) ≡ remembered K (now left) (now own)
-remembered_number kind.Prev now left own = refl
-remembered_number _ now left own = refl
+-- what is remembered is the tree of its source
+remembered_source : (K : Kind) (now : ℕ → Tree) (left own : ℕ) → now (source_of K left own) ≡ remembered K (now left) (now own)
+remembered_source kind.Prev now left own = refl
+remembered_source _ now left own = refl
 
--- the kept number is that of a subformula
-number_within : (K : Kind) (n k left right : ℕ) → IsTrue (is_temporal K) → AreChildren k (children K) left right → 1 ≤ k → k ≤ n → (1 ≤ kept_number K left k) × (kept_number K left k ≤ n)
-number_within kind.Prev n k left right t h p q = let a = h.0 in (a.0, (let b = a.1 in omega (arith, b, q)))
-number_within _ n k left right t h p q = (p, q)
+-- the source is a subformula
+source_within : (K : Kind) (n k left right : ℕ) → IsTrue (is_temporal K) → AreChildren k (children K) left right → 1 ≤ k → k ≤ n → (1 ≤ source_of K left k) × (source_of K left k ≤ n)
+source_within kind.Prev n k left right t h p q = let a = h.0 in (a.0, (let b = a.1 in omega (arith, b, q)))
+source_within _ n k left right t h p q = (p, q)
 
 -- the memory of a kind is the truth of what it remembers
 memo_truth : (K : Kind) (f g : CoreFormula) (k left right : ℕ) (now : ℕ → Tree) (log : List Event) (nu : Texts) (i : ℕ) (b : List Bool) → IsTrue (is_temporal K) → AreChildren k (children K) left right → 1 ≤ i →
@@ -126,7 +127,7 @@ module _ (m : State) (is_sound : IsSound m) (shared : IsShared m.shelf.table) (l
   count = has.count ∙ is_sound.handle_count
 
   module _ (after : State) (same_plan : after.plan ≡ m.plan) (same_bits : after.bits ≡ m.bits) (its_books : after.books ≡ books) (its_table : after.shelf.table ≡ new)
-      (its_count : length after.handles ≡ length handles) (its_rest : drop R after.handles ≡ drop R handles) (its_memory : AreRemembered (length subs) subs R handles after.handles)
+      (remembers : Remembers subs handles after.handles)
       (live : after.live ≡ true) (events : after.events ≡ m.events + 1) (time : after.last_time ≡ e.time) where
     same_remembered : remembered_of after ≡ R
     same_remembered = ap (λ (p : plan_table.Table). temporal_count p.subs) same_plan
@@ -134,7 +135,7 @@ module _ (m : State) (is_sound : IsSound m) (shared : IsShared m.shelf.table) (l
     now_list : map (tree_of after.shelf.table) (drop (remembered_of after) after.handles) ≡ map (tree_of new) (drop R handles)
     now_list =
         ap (λ (u : Table). map (tree_of u) (drop (remembered_of after) after.handles)) its_table
-        ∙ (ap (λ (n : ℕ). map (tree_of new) (drop n after.handles)) same_remembered ∙ ap (λ (hs : List ℕ). map (tree_of new) hs) its_rest)
+        ∙ (ap (λ (n : ℕ). map (tree_of new) (drop n after.handles)) same_remembered ∙ ap (λ (hs : List ℕ). map (tree_of new) hs) remembers.now)
 
     memory_list : map (tree_of after.shelf.table) (take (remembered_of after) after.handles) ≡ map (tree_of new) (take R after.handles)
     memory_list =
@@ -155,7 +156,7 @@ module _ (m : State) (is_sound : IsSound m) (shared : IsShared m.shelf.table) (l
     memory_handle : (k : ℕ) (s : Sub) → slice_get subs (k - 1) ≡ Some s → IsTrue (is_temporal s.kind) → memory_of after k ≡ tree_of new (slice_index_or after.handles (temporal_count (take (k - 1) subs)) 0)
     memory_handle k s g temporal =
         let c = count in
-        let d = its_count in
+        let d = remembers.count in
         ap (λ ts. memory_in after.plan.subs ts k) memory_list
         ∙ (ap (λ (p : plan_table.Table). memory_in p.subs (map (tree_of new) (take R after.handles)) k) same_plan
         ∙ tree_in_front (tree_of new) after.handles R (temporal_count (take (k - 1) subs)) (place_below subs (k - 1) s g temporal) (omega (arith, c, d)))
@@ -165,10 +166,10 @@ module _ (m : State) (is_sound : IsSound m) (shared : IsShared m.shelf.table) (l
 
     memory_is : (k : ℕ) (s : Sub) → 1 ≤ k → slice_get subs (k - 1) ≡ Some s → IsTrue (is_temporal s.kind) → memory_of after k ≡ remembered s.kind (now_of after s.left) (now_of after k)
     memory_is k s one g temporal =
-        let l = number_within s.kind (length subs) k s.left s.right temporal (children_at subs k s is_sound.plan.table one g) one (within k s one g) in
+        let l = source_within s.kind (length subs) k s.left s.right temporal (children_at subs k s is_sound.plan.table one g) one (within k s one g) in
         memory_handle k s g temporal
-        ∙ (ap (tree_of new) (its_memory k s one (within k s one g) g temporal)
-        ∙ (sym (now_handle (kept_number s.kind s.left k) l.0 l.1) ∙ remembered_number s.kind (now_of after) s.left k))
+        ∙ (ap (tree_of new) (remembers.memory k s one g temporal)
+        ∙ (sym (now_handle (source_of s.kind s.left k) l.0 l.1) ∙ remembered_source s.kind (now_of after) s.left k))
 
     step : Stepped m.bits (variables_of m) subs log i e stands.books next (memory_of m) (memory_of after) (now_of after)
     step =

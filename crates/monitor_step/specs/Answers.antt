@@ -1,13 +1,11 @@
 -- What the rows of a subformula, and of an event, leave in the table.
-use Rattle.std.specs.Prelude.{◌≡◌, ℕ, ◌+◌, ◌-◌, ◌≤◌, List, [], ◌++◌, length, map, take, Result, Ok, Err, Some, IsTrue, slice_get, slice_index_or}
+use Rattle.std.specs.Prelude.{◌≡◌, ℕ, ◌+◌, ◌-◌, ◌≤◌, List, [], ◌++◌, length, map, take, Result, Ok, Err, slice_index_or}
 use Rattle.std.specs.List.{count_by}
 use Rattle.node_tree.specs.Tree.{Tree, Zero}
 use Rattle.node_table.specs.Table.{Table, tree_of, IsShared}
 use Rattle.node_table.specs.Collects.{AllValid}
 use Rattle.value_codes.specs.Pairs.{Pairs, Contents}
 use Rattle.operation_rows.specs.Fitting.{MakesRows}
-use Rattle.subformulas.specs.declared.table.Kind.{Kind}
-use Rattle.subformulas.specs.declared.table.Kind.TheVariants as kind
 use Rattle.subformulas.specs.declared.table.Sub.{Sub}
 use Rattle.subformulas.specs.Memory.{is_temporal}
 use Rattle.monitor_step.specs.declared.subformula_rows.RowEnd.{RowEnd}
@@ -29,18 +27,6 @@ temporal_count subs = count_by (λ s. is_temporal s.kind) subs
 -- the tree that subformula k remembers, where the temporal subformulas remember these, in order
 abbrev pub memory_in : List Sub → List Tree → ℕ → Tree
 memory_in subs trees k = slice_index_or trees (temporal_count (take (k - 1) subs)) Zero
-
--- the number of the subformula whose tree a temporal subformula remembers: that of f for @ f, else its own
-abbrev pub kept_number : Kind → (left own : ℕ) → ℕ
-kept_number kind.Prev left own = left
-kept_number _ left own = own
-
--- of the first n subformulas each temporal one remembers, at its place in the later handles, the handle of the subformula of
--- its kept number; in the earlier handles those of the subformulas stand behind so many that are remembered
-abbrev pub AreRemembered : (n : ℕ) → List Sub → (remembered : ℕ) → (before after : List ℕ) → Type 0
-AreRemembered n subs remembered before after =
-    (k : ℕ) (s : Sub) → 1 ≤ k → k ≤ n → slice_get subs (k - 1) ≡ Some s → IsTrue (is_temporal s.kind) →
-    slice_index_or after (temporal_count (take (k - 1) subs)) 0 ≡ slice_index_or before (remembered + kept_number s.kind s.left k - 1) 0
 
 -- the first handles are as before, and have the trees that they had; the others have the trees of the subformulas
 pub record HasTrees (s : Sources) (remembered : ℕ) (before after : List ℕ) (old new : Table) : Type 0 where
