@@ -71,8 +71,9 @@ module _ (m : State) (is_sound : IsSound m) (shared : IsShared m.shelf.table) (l
   abbrev subs : List Sub
   subs = m.plan.subs
 
-  abbrev R : ℕ
-  R = remembered_of m
+  -- how many handles of remembered trees stand in front
+  abbrev front : ℕ
+  front = remembered_of m
 
   abbrev told : ℕ → List Text
   told = told_of m is_sound shared log bytes i stands
@@ -83,8 +84,8 @@ module _ (m : State) (is_sound : IsSound m) (shared : IsShared m.shelf.table) (l
   same_codes : (x : ℕ) → x < variables_of m → SameCodes (pairs_at books x) (next x)
   same_codes = same_next m is_sound shared log bytes i stands e entries needs books served
 
-  kept : map (tree_of t) (take R m.handles) ≡ remembered_trees m
-  kept = trees_kept m.shelf.table t (take R m.handles) nodes
+  kept : map (tree_of t) (take front m.handles) ≡ remembered_trees m
+  kept = trees_kept m.shelf.table t (take front m.handles) nodes
 
   -- the rows all fit
   event_end : IsEnd m.bits m.shelf.table.room (variables_of m) subs log i e None
@@ -110,34 +111,34 @@ module _ (m : State) (is_sound : IsSound m) (shared : IsShared m.shelf.table) (l
   abbrev trees : List Tree
   trees = trees_from m.bits (atom_tree m.bits next (variables_of m) e) (memory_of m) [] subs
 
-  trees_first : first_trees (sources m.bits (variables_of m) subs e (pairs_at books) (memory_in subs (map (tree_of t) (take R m.handles)))) (length subs) ≡ trees
+  trees_first : first_trees (sources m.bits (variables_of m) subs e (pairs_at books) (memory_in subs (map (tree_of t) (take front m.handles)))) (length subs) ≡ trees
   trees_first =
       ap (λ ts. first_trees (sources m.bits (variables_of m) subs e (pairs_at books) (memory_in subs ts)) (length subs)) kept
       ∙ (same_first m.bits (variables_of m) subs e (pairs_at books) next (memory_of m) same_codes (length subs)
       ∙ ap (λ ss. trees_from m.bits (atom_tree m.bits next (variables_of m) e) (memory_of m) [] ss) (take_all (length subs) subs (omega arith)))
 
-  behind : map (tree_of new) (drop R handles) ≡ trees
+  behind : map (tree_of new) (drop front handles) ≡ trees
   behind =
       let c = is_sound.handle_count in
-      trees_behind (tree_of new) handles R (map (tree_of t) (take R m.handles)) _ has.trees
-      (length-map (take R m.handles) (tree_of t) ∙ length-take-le R m.handles (omega (arith, c)))
+      trees_behind (tree_of new) handles front (map (tree_of t) (take front m.handles)) _ has.trees
+      (length-map (take front m.handles) (tree_of t) ∙ length-take-le front m.handles (omega (arith, c)))
       ∙ trees_first
 
-  count : length handles ≡ R + length subs
+  count : length handles ≡ front + length subs
   count = has.count ∙ is_sound.handle_count
 
   module _ (after : State) (same_plan : after.plan ≡ m.plan) (same_bits : after.bits ≡ m.bits) (its_books : after.books ≡ books) (its_table : after.shelf.table ≡ new)
       (remembers : Remembers subs handles after.handles)
       (live : after.live ≡ true) (events : after.events ≡ m.events + 1) (time : after.last_time ≡ e.time) where
-    same_remembered : remembered_of after ≡ R
+    same_remembered : remembered_of after ≡ front
     same_remembered = ap (λ (p : plan_table.Table). temporal_count p.subs) same_plan
 
-    now_list : map (tree_of after.shelf.table) (drop (remembered_of after) after.handles) ≡ map (tree_of new) (drop R handles)
+    now_list : map (tree_of after.shelf.table) (drop (remembered_of after) after.handles) ≡ map (tree_of new) (drop front handles)
     now_list =
         ap (λ (u : Table). map (tree_of u) (drop (remembered_of after) after.handles)) its_table
         ∙ (ap (λ (n : ℕ). map (tree_of new) (drop n after.handles)) same_remembered ∙ ap (λ (hs : List ℕ). map (tree_of new) hs) remembers.now)
 
-    memory_list : map (tree_of after.shelf.table) (take (remembered_of after) after.handles) ≡ map (tree_of new) (take R after.handles)
+    memory_list : map (tree_of after.shelf.table) (take (remembered_of after) after.handles) ≡ map (tree_of new) (take front after.handles)
     memory_list =
         ap (λ (u : Table). map (tree_of u) (take (remembered_of after) after.handles)) its_table
         ∙ ap (λ (n : ℕ). map (tree_of new) (take n after.handles)) same_remembered
@@ -146,20 +147,20 @@ module _ (m : State) (is_sound : IsSound m) (shared : IsShared m.shelf.table) (l
     now_is k = ap (λ ts. slice_index_or ts (k - 1) Zero) (now_list ∙ behind)
 
     -- the tree of a subformula is that of its handle
-    now_handle : (k : ℕ) → 1 ≤ k → k ≤ length subs → now_of after k ≡ tree_of new (slice_index_or handles (R + k - 1) 0)
+    now_handle : (k : ℕ) → 1 ≤ k → k ≤ length subs → now_of after k ≡ tree_of new (slice_index_or handles (front + k - 1) 0)
     now_handle k one most =
         let c = count in
-        let f : R + (k - 1) ≡ R + k - 1 = omega (arith, one) in
+        let f : front + (k - 1) ≡ front + k - 1 = omega (arith, one) in
         ap (λ ts. slice_index_or ts (k - 1) Zero) now_list
-        ∙ (tree_behind (tree_of new) handles R (k - 1) (omega (arith, c, one, most)) ∙ ap (λ (j : ℕ). tree_of new (slice_index_or handles j 0)) f)
+        ∙ (tree_behind (tree_of new) handles front (k - 1) (omega (arith, c, one, most)) ∙ ap (λ (j : ℕ). tree_of new (slice_index_or handles j 0)) f)
 
     memory_handle : (k : ℕ) (s : Sub) → slice_get subs (k - 1) ≡ Some s → IsTrue (is_temporal s.kind) → memory_of after k ≡ tree_of new (slice_index_or after.handles (temporal_count (take (k - 1) subs)) 0)
     memory_handle k s g temporal =
         let c = count in
         let d = remembers.count in
         ap (λ ts. memory_in after.plan.subs ts k) memory_list
-        ∙ (ap (λ (p : plan_table.Table). memory_in p.subs (map (tree_of new) (take R after.handles)) k) same_plan
-        ∙ tree_in_front (tree_of new) after.handles R (temporal_count (take (k - 1) subs)) (place_below subs (k - 1) s g temporal) (omega (arith, c, d)))
+        ∙ (ap (λ (p : plan_table.Table). memory_in p.subs (map (tree_of new) (take front after.handles)) k) same_plan
+        ∙ tree_in_front (tree_of new) after.handles front (temporal_count (take (k - 1) subs)) (place_below subs (k - 1) s g temporal) (omega (arith, c, d)))
 
     within : (k : ℕ) (s : Sub) → 1 ≤ k → slice_get subs (k - 1) ≡ Some s → k ≤ length subs
     within k s one g = let l = slice_get_within subs (k - 1) s g in omega (arith, one, l)
