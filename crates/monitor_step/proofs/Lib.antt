@@ -25,3 +25,7 @@ pub mod ServingAll
 pub mod AtomRows
 pub mod KindRows
 pub mod EventRows
+pub mod ComposingSame
+pub mod ComposingLists
+pub mod Composing
+pub mod ComposingEvent
