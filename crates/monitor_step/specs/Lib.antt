@@ -9,3 +9,6 @@ pub mod Laws
 pub mod Serving
 pub mod Giving
 pub mod Answers
+pub mod Monitor
+pub mod Remembers
+pub mod Steps

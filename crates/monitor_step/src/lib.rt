@@ -5,4 +5,7 @@ mod atom_row;
 pub mod codes;
 mod event_rows;
 pub mod laws;
+mod monitor;
 mod subformula_rows;
+
+pub use monitor::{Monitor, Sizes, StepEnd};
