@@ -10,3 +10,5 @@ pub mod Serving
 pub mod Giving
 pub mod Answers
 pub mod Monitor
+pub mod Remembers
+pub mod Steps

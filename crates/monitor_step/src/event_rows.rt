@@ -96,6 +96,7 @@ pub fn event_rows<L: Ledger>(
     requires few_bits { bits ≤ 20 }
     ensures made { let memory = memory_in plan.now.subs (map (tree_of store.old.table) (take remembered handles.old.items)) in
         AnswersEvent (sources bits (length plan.now.variables) plan.now.subs event.now (pairs_at books.now) memory) remembered handles.old.items handles.new.items store.old.table store.new.table result }
+    ensures count { length handles.new.items ≡ length handles.old.items }
     ensures room { store.new.table.room ≡ store.old.table.room }
     ensures entries { store.new.memo.entries ≡ store.old.memo.entries }
     ensures cost { IsLarge store.old → steps.new ≤ steps.old + sum_by (λ s. rows_of s.kind bits) plan.now.subs * (6 * handle_pairs store.old.table) }

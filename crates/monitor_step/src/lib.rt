@@ -10,3 +10,5 @@ mod subformula_rows;
 
 #[cfg(test)]
 mod codes_tests;
+
+pub use monitor::{Monitor, Sizes, StepEnd};

@@ -15,5 +15,5 @@ pub mod Step
 pub mod Unfold
 pub mod Unfolds
 pub mod Binding
-mod Entries
+pub mod Entries
 mod Unrepeated
