@@ -29,3 +29,6 @@ pub mod ComposingSame
 pub mod ComposingLists
 pub mod Composing
 pub mod ComposingEvent
+pub mod OneEndMemory
+pub mod OneEndFull
+pub mod OneEnd
