@@ -10,5 +10,7 @@ mod subformula_rows;
 
 #[cfg(test)]
 mod codes_tests;
+#[cfg(test)]
+mod tests;
 
 pub use monitor::{Monitor, Sizes, StepEnd};
