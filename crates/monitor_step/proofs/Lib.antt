@@ -24,3 +24,9 @@ pub mod Serving
 pub mod ServingAll
 pub mod AtomRows
 pub mod KindRows
+pub mod EventRows
+pub mod ComposingSame
+pub mod ComposingLists
+pub mod Composing
+pub mod Remembering
+pub mod Judging
