@@ -30,3 +30,4 @@ pub mod ComposingLists
 pub mod Composing
 pub mod Remembering
 pub mod Judging
+pub mod ComposingEvent
