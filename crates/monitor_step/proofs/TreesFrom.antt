@@ -22,7 +22,7 @@ use Rattle.monitor_step.specs.Rows.{atom_tree, rows_of_kind, result_of, tree_at,
 use Rattle.monitor_step.proofs.RowTrees.{IsDiagram, with_last, row_is, rows_diagrams, result_diagram}
 
 -- a kind's rows depend on the children that the kind has
-rows_same : (width : ℕ) (cube : AtomOf → Tree) (k : Kind) (f g f' g' m : Tree) → (1 ≤ children k → f ≡ f') → (2 ≤ children k → g ≡ g') → rows_of_kind width cube k f g m ≡ rows_of_kind width cube k f' g' m
+pub rows_same : (width : ℕ) (cube : AtomOf → Tree) (k : Kind) (f g f' g' m : Tree) → (1 ≤ children k → f ≡ f') → (2 ≤ children k → g ≡ g') → rows_of_kind width cube k f g m ≡ rows_of_kind width cube k f' g' m
 rows_same width cube kind.True f g f' g' m one two = refl
 rows_same width cube kind.False f g f' g' m one two = refl
 rows_same width cube (kind.Atom a) f g f' g' m one two = refl

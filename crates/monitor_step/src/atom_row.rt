@@ -110,6 +110,7 @@ pub fn atom_row<L: Ledger>(
     requires roots { AllValid store.old.table roots.now }
     ensures made { let t = atom_tree bits (pairs_at books.now) (length books.now) event.now atom.now in AnswersRows (t ∷ []) t roots.now store.old.table store.new.table result }
     ensures cost { steps.new ≡ steps.old }
+    ensures room { store.new.table.room ≡ store.old.table.room }
     ensures entries { store.new.memo.entries ≡ store.old.memo.entries }
     ensures capacity { vec_capacity literals.old ≤ vec_capacity literals.new }
     ensures no_memory { length (variables_of atom.now.terms) ≤ 8 → length books.now * bits ≤ vec_capacity literals.old → ¬ IsErrOf result NoMemory }

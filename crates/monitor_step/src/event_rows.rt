@@ -1,6 +1,6 @@
 //! The rows of all subformulas at an event.
 
-ghost use Rattle.std.specs.Prelude.{◌≡◌, ◌+◌, ◌-◌, ◌*◌, ◌<◌, ◌≤◌, length, map, take, slice_get, Some, false, vec_capacity, IsErrOf};
+ghost use Rattle.std.specs.Prelude.{◌≡◌, ◌+◌, ◌-◌, ◌*◌, ◌<◌, ◌≤◌, length, map, take, slice_get, Some, true, false, if◌then◌else◌, vec_capacity, IsErrOf};
 ghost use Rattle.subformulas.specs.Memory.{is_temporal};
 ghost use Rattle.std.specs.List.{AllByRecursion, list_any, sum_by};
 ghost use Rattle.node_table.specs.Table.{tree_of, IsShared};
@@ -41,6 +41,22 @@ pub fn is_temporal(kind: &Kind) -> bool
         kind,
         Kind::Prev | Kind::Since | Kind::Once | Kind::Always | Kind::Interval
     )
+}
+
+/// The place of the remembered tree of a subformula of this kind: the next one where it is temporal, else the first.
+fn memory_place(kind: &Kind, next: usize) -> usize
+    ensures temporal { is_temporal kind.now ≡ true → result ≡ next }
+    ensures within { result ≤ next }
+{
+    if is_temporal(kind) { next } else { 0 }
+}
+
+/// The place of the next remembered tree after a subformula of this kind.
+fn place_after(kind: &Kind, next: usize) -> usize
+    requires { next ≤ 4096 }
+    ensures { result ≡ (if is_temporal kind.now then next + 1 else next) }
+{
+    if is_temporal(kind) { next + 1 } else { next }
 }
 
 /// The handle of the child of this number, where that many handles of remembered trees stand before those of the
@@ -94,7 +110,7 @@ pub fn event_rows<L: Ledger>(
         let done = remembered + k as usize;
         let f = child(handles, remembered, sub.left);
         let g = child(handles, remembered, sub.right);
-        let m = handles[if is_temporal(&sub.kind) { next } else { 0 }];
+        let m = handles[memory_place(&sub.kind, next)];
         match subformula_rows(
             alloc,
             store,
@@ -118,9 +134,7 @@ pub fn event_rows<L: Ledger>(
             }
             Err(RowEnd::NoMemory) => return Err(RowsEnd::NoMemory),
         }
-        if is_temporal(&sub.kind) {
-            next += 1;
-        }
+        next = place_after(&sub.kind, next);
     }
     Ok(())
 }

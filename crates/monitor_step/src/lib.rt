@@ -2,10 +2,13 @@
 #![tactic(auto)]
 
 mod atom_row;
-pub mod codes;
+mod codes;
 mod event_rows;
 pub mod laws;
 mod monitor;
 mod subformula_rows;
+
+#[cfg(test)]
+mod codes_tests;
 
 pub use monitor::{Monitor, Sizes, StepEnd};

@@ -47,15 +47,9 @@ pub struct Sizes {
 #[derive(Clone, Copy, Debug, PartialEq, Eq)]
 pub enum StepEnd {
     /// For this variable so many texts are told apart or needed, and there are fewer codes.
-    CodesFull {
-        variable: u32,
-        need: u32,
-    },
+    CodesFull { variable: u32, need: u32 },
     /// This row of this subformula, both counted from 1, is the first that needs more nodes than the table has.
-    NodesFull {
-        subformula: u32,
-        row: u32,
-    },
+    NodesFull { subformula: u32, row: u32 },
     NoMemory,
 }
 

@@ -96,6 +96,7 @@ pub fn subformula_rows<L: Ledger>(
     ensures made { let rows = rows_of_kind bits (atom_tree bits (pairs_at books.now) (length books.now) event.now) kind.now (tree_of store.old.table f) (tree_of store.old.table g) (tree_of store.old.table m) in
         AnswersRows rows (result_of kind.now (tree_of store.old.table m) rows) roots.now store.old.table store.new.table result }
     ensures cost { IsLarge store.old → steps.new ≤ steps.old + rows_of kind.now bits * (6 * handle_pairs store.old.table) }
+    ensures room { store.new.table.room ≡ store.old.table.room }
     ensures entries { store.new.memo.entries ≡ store.old.memo.entries }
     ensures capacity { vec_capacity literals.old ≤ vec_capacity literals.new }
     ensures no_memory { HasFewVariables kind.now → length books.now * bits ≤ vec_capacity literals.old → ¬ IsErrOf result NoMemory }

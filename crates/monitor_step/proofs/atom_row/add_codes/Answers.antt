@@ -26,19 +26,19 @@ loop-x-preserved c =
     let same = ap (λ p. option_and_then (code_of p) (given c.args.atom.now.terms c.args.event.now.args x)) here in
     elim c.match-code_given.branch [
       | in-Some+in_ok-add_code w ↦
-        let code : event_code (pairs_at c.args.books.now) c.args.event.now c.args.atom.now x ≡ Some w.in-Some.code = same ∙ (sym c.code_given.ensures ∙ w.in-Some.is) in
-        let e = length-append c.loop-x.literals.items (code_literals (x * c.args.bits) c.args.bits w.in-Some.code) in
-        let n = length_code (x * c.args.bits) c.args.bits w.in-Some.code in
-        record {
-          items = literals_more c.args.bits (pairs_at c.args.books.now) x c.args.event.now c.args.atom.now c.loop-x.literals.items _ inv.items (rw (code, w.literals-is) w.in_ok-add_code.ensures.items);
-          count = let k = inv.count in rw (w.literals-is, w.in_ok-add_code.ensures.items) (omega (arith, e, n, step, k));
-          room = rw w.literals-is (let a = inv.room in let b = w.in_ok-add_code.ensures.capacity in omega (arith, a, b));
-        }
+          let code : event_code (pairs_at c.args.books.now) c.args.event.now c.args.atom.now x ≡ Some w.in-Some.code = same ∙ (sym c.code_given.ensures ∙ w.in-Some.is) in
+          let e = length-append c.loop-x.literals.items (code_literals (x * c.args.bits) c.args.bits w.in-Some.code) in
+          let n = length_code (x * c.args.bits) c.args.bits w.in-Some.code in
+          record {
+            items = literals_more c.args.bits (pairs_at c.args.books.now) x c.args.event.now c.args.atom.now c.loop-x.literals.items _ inv.items (rw (code, w.literals-is) w.in_ok-add_code.ensures.items);
+            count = let k = inv.count in rw (w.literals-is, w.in_ok-add_code.ensures.items) (omega (arith, e, n, step, k));
+            room = rw w.literals-is (let a = inv.room in let b = w.in_ok-add_code.ensures.capacity in omega (arith, a, b));
+          }
       | in_default w ↦
-        let code : event_code (pairs_at c.args.books.now) c.args.event.now c.args.atom.now x ≡ None = same ∙ sym w.in_default.ensures in
-        record {
-          items = literals_more c.args.bits (pairs_at c.args.books.now) x c.args.event.now c.args.atom.now c.loop-x.literals.items _ inv.items (rw (code, w.literals-is) (sym (append-nil c.loop-x.literals.items)));
-          count = rw w.literals-is (let k = inv.count in omega (arith, step, k));
-          room = rw w.literals-is inv.room;
-        }
+          let code : event_code (pairs_at c.args.books.now) c.args.event.now c.args.atom.now x ≡ None = same ∙ sym w.in_default.ensures in
+          record {
+            items = literals_more c.args.bits (pairs_at c.args.books.now) x c.args.event.now c.args.atom.now c.loop-x.literals.items _ inv.items (rw (code, w.literals-is) (sym (append-nil c.loop-x.literals.items)));
+            count = rw w.literals-is (let k = inv.count in omega (arith, step, k));
+            room = rw w.literals-is inv.room;
+          }
     ]

@@ -1,9 +1,8 @@
-use Rattle.std.proofs.Common.{◌≡◌, ◌∙◌, sym, ap, [], ◌∷◌, length, subst, Some, None}
-use Rattle.std.specs.Prelude.{Err}
+use Rattle.std.proofs.Common.{◌≡◌, ◌∙◌, sym, ap, [], ◌∷◌, length, subst}
 use Rattle.node_tree.specs.Tree.{Zero}
 use Rattle.bdd_ops.specs.Cube.{cube_tree, AscendFrom}
 use Rattle.qtl_truth.specs.Matching.{IsMatch}
-use Rattle.monitor_step.specs.Rows.{atom_tree, event_literals}
+use Rattle.monitor_step.specs.Rows.{atom_tree}
 use Rattle.monitor_step.specs.Serving.{pairs_at}
 use Rattle.monitor_step.proofs.AtomRows.{unmatched, matched, same_rows, passed_full}
 use Rattle.monitor_step.proofs.RowTrees.{event_ascends}
