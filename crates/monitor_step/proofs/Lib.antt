@@ -31,3 +31,4 @@ pub mod Composing
 pub mod Remembering
 pub mod Judging
 pub mod ComposingEvent
+pub mod FewNeeds

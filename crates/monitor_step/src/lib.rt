@@ -3,12 +3,11 @@
 
 mod atom_row;
 mod codes;
+#[cfg(test)]
+mod codes_tests;
 mod event_rows;
 pub mod laws;
 mod monitor;
 mod subformula_rows;
-
-#[cfg(test)]
-mod codes_tests;
 
 pub use monitor::{Monitor, Sizes, StepEnd};

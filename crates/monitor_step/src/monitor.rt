@@ -175,11 +175,7 @@ fn first_handle(kind: &Kind, table: &NodeTable) -> Handle
 }
 
 /// The handles of the trees that are remembered before the first event, with room for one more of each subformula.
-fn first_remembered(
-    alloc: Global,
-    plan: &Plan,
-    table: &NodeTable,
-) -> Result<Vec<Handle>, NoMemory>
+fn first_remembered(alloc: Global, plan: &Plan, table: &NodeTable) -> Result<Vec<Handle>, NoMemory>
     ensures trees { IfOk result (λ handles. map (tree_of table.now) handles.items ≡ first_memories plan.now.subs) }
     ensures valid { IfOk result (λ handles. AllValid table.now handles.items) }
 {
@@ -239,6 +235,7 @@ fn serve_event<L: Ledger>(
     ensures cost { steps.new ≤ steps.old + length books.old * ((2 ^ bits - 1) * ((store.old.table.room + 2) * (2 * bits + 1))) }
     ensures idle { remembered.now ≡ [] → steps.new ≡ steps.old }
 {
+    let _count = plan.count();
     needs(alloc, plan, event, list)?;
     serve_all(
         store.table_mut(),

@@ -18,16 +18,16 @@ loop-k-preserved c =
     let t = c.args.table.now in
     let hs = c.loop-k.handles.items in
     elim c.if-is_temporal.branch [
-      then-is_temporal+in_ok-push w ↦
-        let h = w.first_handle.result in
-        let more = first_yes subs c.loop-k.k c.sub.result.now at (sym c.is_temporal.ensures ∙ w.if-is_temporal.true) in
-        rw (w.handles-is, w.in_ok-push.ensures.items) (record {
-          trees = map-append (tree_of t) hs (h ∷ []) ∙ (ap (λ ts. ts ++ tree_of t h ∷ []) i.trees ∙ (ap (λ u. first_memories (take c.loop-k.k subs) ++ u ∷ []) w.first_handle.ensures.tree ∙ sym more));
-          valid = valid_end t hs h i.valid w.first_handle.ensures.valid;
-        })
+      | then-is_temporal+in_ok-push w ↦
+          let h = w.first_handle.result in
+          let more = first_yes subs c.loop-k.k c.sub.result.now at (sym c.is_temporal.ensures ∙ w.if-is_temporal.true) in
+          rw (w.handles-is, w.in_ok-push.ensures.items) (record {
+            trees = map-append (tree_of t) hs (h ∷ []) ∙ (ap (λ ts. ts ++ tree_of t h ∷ []) i.trees ∙ (ap (λ u. first_memories (take c.loop-k.k subs) ++ u ∷ []) w.first_handle.ensures.tree ∙ sym more));
+            valid = valid_end t hs h i.valid w.first_handle.ensures.valid;
+          })
       | else-is_temporal w ↦
-        let more = first_no subs c.loop-k.k c.sub.result.now at (sym c.is_temporal.ensures ∙ w.if-is_temporal.false) in
-        rw w.handles-is (record { trees = i.trees ∙ sym more; valid = i.valid })
+          let more = first_no subs c.loop-k.k c.sub.result.now at (sym c.is_temporal.ensures ∙ w.if-is_temporal.false) in
+          rw w.handles-is (record { trees = i.trees ∙ sym more; valid = i.valid })
     ]
 
 pub returns-clause-trees : goal.returns-clause-trees

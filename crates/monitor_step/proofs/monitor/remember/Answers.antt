@@ -45,34 +45,34 @@ loop-k-preserved c =
     let low = within.0 in
     let high = within.1 in
     elim c.if-is_temporal.branch [
-      then-is_temporal w ↦
-        let yes = sym c.is_temporal.ensures ∙ w.if-is_temporal.true in
-        let first = temporal_place subs k s at yes in
-        let front : c.loop-k.next < c.args.remembered = omega (arith, first, next, c.requires.remembered) in
-        let inside : c.loop-k.next < length hs = omega (arith, front, count, c.requires.count) in
-        let source = w.source_of.ensures in
-        let there : c.args.remembered + w.source_of.result - 1 < length hs = omega (arith, low, high, source, count, c.requires.count, c.loop-k-test.true, c.count-k-end.ensures.count) in
-        let read = get_or_read hs (c.args.remembered + w.source_of.result - 1) w.index.result.now there w.index.ensures 0 in
-        let h = w.index.result.now in
-        let more = temporal_yes subs k s at yes in
-        let n = w.next-is in
-        rw (w.handles-is, w.next-is) (record {
-          next = omega (arith, more, next);
-          count = length-set hs c.loop-k.next h ∙ count;
-          now = drop-set-lt c.args.remembered hs c.loop-k.next h front ∙ i.now;
-          memory = remembered_yes subs c.args.remembered k c.loop-k.next h s was hs at next inside
-            (read ∙ (behind_same was hs c.args.remembered (c.args.remembered + w.source_of.result - 1) i.now (omega (arith, low, source)) ∙ ap (λ (n : ℕ). slice_index_or was (c.args.remembered + n - 1) 0) source)) i.memory;
-          valid = λ t v. valid_set t hs c.loop-k.next h inside (i.valid t v) (subst (λ (q : ℕ). IsValid t q) (sym read) (i.valid t v (c.args.remembered + w.source_of.result - 1) there));
-        })
+      | then-is_temporal w ↦
+          let yes = sym c.is_temporal.ensures ∙ w.if-is_temporal.true in
+          let first = temporal_place subs k s at yes in
+          let front : c.loop-k.next < c.args.remembered = omega (arith, first, next, c.requires.remembered) in
+          let inside : c.loop-k.next < length hs = omega (arith, front, count, c.requires.count) in
+          let source = w.source_of.ensures in
+          let there : c.args.remembered + w.source_of.result - 1 < length hs = omega (arith, low, high, source, count, c.requires.count, c.loop-k-test.true, c.count-k-end.ensures.count) in
+          let read = get_or_read hs (c.args.remembered + w.source_of.result - 1) w.index.result.now there w.index.ensures 0 in
+          let h = w.index.result.now in
+          let more = temporal_yes subs k s at yes in
+          let n = w.next-is in
+          rw (w.handles-is, w.next-is) (record {
+            next = omega (arith, more, next);
+            count = length-set hs c.loop-k.next h ∙ count;
+            now = drop-set-lt c.args.remembered hs c.loop-k.next h front ∙ i.now;
+            memory = remembered_yes subs c.args.remembered k c.loop-k.next h s was hs at next inside
+                (read ∙ (behind_same was hs c.args.remembered (c.args.remembered + w.source_of.result - 1) i.now (omega (arith, low, source)) ∙ ap (λ (n : ℕ). slice_index_or was (c.args.remembered + n - 1) 0) source)) i.memory;
+            valid = λ t v. valid_set t hs c.loop-k.next h inside (i.valid t v) (subst (λ (q : ℕ). IsValid t q) (sym read) (i.valid t v (c.args.remembered + w.source_of.result - 1) there));
+          })
       | else-is_temporal w ↦
-        let none = sym c.is_temporal.ensures ∙ w.if-is_temporal.false in
-        rw (w.handles-is, w.next-is) (record {
-          next = next ∙ sym (temporal_no subs k s at none);
-          count = count;
-          now = i.now;
-          memory = remembered_no subs c.args.remembered k c.loop-k.next s was hs at none i.memory;
-          valid = i.valid;
-        })
+          let none = sym c.is_temporal.ensures ∙ w.if-is_temporal.false in
+          rw (w.handles-is, w.next-is) (record {
+            next = next ∙ sym (temporal_no subs k s at none);
+            count = count;
+            now = i.now;
+            memory = remembered_no subs c.args.remembered k c.loop-k.next s was hs at none i.memory;
+            valid = i.valid;
+          })
     ]
 
 pub returns : goal.returns
@@ -85,8 +85,8 @@ returns c =
       count = i.count;
       now = subst (λ (n : ℕ). drop n c.loop-k.handles.items ≡ drop n c.args.handles.now.items) r i.now;
       memory = λ k s some at t.
-        let within = slice_get_within subs (k - 1) s at in
-        let number : k - 1 + 1 ≡ k = omega (arith, some) in
-        (i.memory (k - 1) s (omega (arith, within, all)) at t).1 ∙ (ap (λ (n : ℕ). slice_index_or c.args.handles.now.items (c.args.remembered + source_of s.kind s.left n - 1) 0) number ∙ ap (λ (n : ℕ). slice_index_or c.args.handles.now.items (n + source_of s.kind s.left k - 1) 0) r);
+          let within = slice_get_within subs (k - 1) s at in
+          let number : k - 1 + 1 ≡ k = omega (arith, some) in
+          (i.memory (k - 1) s (omega (arith, within, all)) at t).1 ∙ (ap (λ (n : ℕ). slice_index_or c.args.handles.now.items (c.args.remembered + source_of s.kind s.left n - 1) 0) number ∙ ap (λ (n : ℕ). slice_index_or c.args.handles.now.items (n + source_of s.kind s.left k - 1) 0) r);
       valid = i.valid;
     }

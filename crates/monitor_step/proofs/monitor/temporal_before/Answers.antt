@@ -21,7 +21,7 @@ loop-k-preserved c =
     let place : c.loop-k.k + 1 - 1 ≡ c.loop-k.k = omega arith in
     let at = rw place at c.sub.ensures in
     elim c.if-is_temporal.branch [
-      then-is_temporal w ↦ let e = temporal_yes c.args.plan.now.subs c.loop-k.k c.sub.result.now at (sym c.is_temporal.ensures ∙ w.if-is_temporal.true) in let i = c.loop-k.invariant in let n = w.count-is in omega (arith, e, i, n)
+      | then-is_temporal w ↦ let e = temporal_yes c.args.plan.now.subs c.loop-k.k c.sub.result.now at (sym c.is_temporal.ensures ∙ w.if-is_temporal.true) in let i = c.loop-k.invariant in let n = w.count-is in omega (arith, e, i, n)
       | else-is_temporal w ↦ let e = temporal_no c.args.plan.now.subs c.loop-k.k c.sub.result.now at (sym c.is_temporal.ensures ∙ w.if-is_temporal.false) in let i = c.loop-k.invariant in let n = w.count-is in omega (arith, e, i, n)
     ]
 
