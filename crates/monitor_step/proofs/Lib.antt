@@ -32,3 +32,4 @@ pub mod Remembering
 pub mod Judging
 pub mod ComposingEvent
 pub mod FewNeeds
+pub mod StepParts
