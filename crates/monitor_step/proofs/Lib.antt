@@ -28,7 +28,11 @@ pub mod EventRows
 pub mod ComposingSame
 pub mod ComposingLists
 pub mod Composing
+pub mod Remembering
+pub mod Judging
 pub mod ComposingEvent
 pub mod OneEndMemory
 pub mod OneEndFull
 pub mod OneEnd
+pub mod FewNeeds
+pub mod StepParts

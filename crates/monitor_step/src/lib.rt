@@ -8,9 +8,9 @@ pub mod laws;
 mod monitor;
 mod subformula_rows;
 
+pub use monitor::{Monitor, Sizes, StepEnd};
+
 #[cfg(test)]
 mod codes_tests;
 #[cfg(test)]
 mod tests;
-
-pub use monitor::{Monitor, Sizes, StepEnd};
