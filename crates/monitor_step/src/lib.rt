@@ -11,6 +11,10 @@ mod subformula_rows;
 #[cfg(test)]
 mod codes_tests;
 #[cfg(test)]
+mod compared_tests;
+#[cfg(test)]
+mod slow_truth;
+#[cfg(test)]
 mod tests;
 
 pub use monitor::{Monitor, Sizes, StepEnd};
