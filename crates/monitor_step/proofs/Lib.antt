@@ -28,4 +28,8 @@ pub mod EventRows
 pub mod ComposingSame
 pub mod ComposingLists
 pub mod Composing
+pub mod Remembering
+pub mod Judging
 pub mod ComposingEvent
+pub mod FewNeeds
+pub mod StepParts

@@ -198,36 +198,78 @@ pub record HasRoom (trees : List Tree) (first bits : ℕ) (needed : List Text) (
   pub same_bits : mid.bits ≡ bits
   pub sound : IsBook mid
 
-module _ (trees : List Tree) (first bits : ℕ) (needed : List Text) (before : Contents) (sound : IsBook before) (same_bits : before.bits ≡ bits) (few : length before.pairs ≤ 2 ^ bits - 1) (apart : AllApart needed) where
-  keeps_listed : (mid : Pairs) (s : IsSwept trees first bits needed before.pairs mid) → Keeps (stays trees first bits (codes_in before.pairs needed)) before.pairs mid
-  keeps_listed mid s = subst (λ (cs : List ℕ). Keeps (stays trees first bits cs) before.pairs mid) s.listed s.keeps
+-- what counting the free codes and the new texts tells, before there is a sweep
+pub record IsCounted (bits : ℕ) (needed : List Text) (before : Contents) (free new : ℕ) : Type 0 where
+  pub sound : IsBook before
+  pub same_bits : before.bits ≡ bits
+  pub frees : free + length before.pairs ≡ 2 ^ before.bits - 1
+  pub news : new ≡ length (without_code before.pairs needed)
 
-  pub ready_new : (mid : Pairs) → IsReady trees first bits needed before.pairs mid → without_code mid needed ≡ without_code before.pairs needed
-  ready_new mid (inl e) = ap (λ b. without_code b needed) e
-  ready_new mid (inr s) = new_stay trees first bits needed before.pairs sound.paired mid (keeps_listed mid s)
+module _ (bits : ℕ) (needed : List Text) (before : Contents) (free new : ℕ) (c : IsCounted bits needed before free new) where
+  all_codes : free + length before.pairs + 1 ≡ 2 ^ bits
+  all_codes = let a = c.frees in let some = pow_pos before.bits in let e = ap (λ (n : ℕ). 2 ^ n) c.same_bits in omega (arith, a, some, e)
 
-  pub room_ready : (mid : Contents) → HasRoom trees first bits needed before.pairs mid → length mid.pairs + length (without_code mid.pairs needed) < 2 ^ mid.bits
-  room_ready mid r = rw (ready_new mid.pairs r.ready, r.same_bits) r.room
+  pub few_pairs : length before.pairs ≤ 2 ^ bits - 1
+  few_pairs = let a = all_codes in omega (arith, a)
 
-  pub served_ready : (mid : Contents) (after : Pairs) → HasRoom trees first bits needed before.pairs mid → GivesAll mid.bits needed mid.pairs after → IsServed trees first bits needed before.pairs after
-  served_ready mid after r gives = by_case r.ready
-    where
-      all : GivesAll bits needed mid.pairs after
-      all = subst (λ (n : ℕ). GivesAll n needed mid.pairs after) r.same_bits gives
+  pub room_free : (trees : List Tree) (first : ℕ) → new ≤ free → HasRoom trees first bits needed before.pairs before
+  room_free trees first l = record {
+    ready = inl refl;
+    room = let a = all_codes in let n = c.news in omega (arith, a, n, l);
+    same_bits = c.same_bits;
+    sound = c.sound;
+  }
 
-      by_case : IsReady trees first bits needed before.pairs mid.pairs → IsServed trees first bits needed before.pairs after
-      by_case (inl e) =
-          served_free trees first bits needed before.pairs sound.paired few apart after (subst (λ b. length b + length (without_code before.pairs needed) < 2 ^ bits) e r.room) (subst (λ b. GivesAll bits needed b after) e all)
-      by_case (inr s) = served_swept trees first bits needed before.pairs sound.paired few apart mid.pairs (keeps_listed mid.pairs s) r.sound.paired s.full after r.room all
+  pub is_swept : (trees : List Tree) (first : ℕ) (mid : Pairs) (codes items : List ℕ) → free < new → codes ≡ items → items ≡ codes_in before.pairs needed → Keeps (stays trees first bits codes) before.pairs mid → IsSwept trees first bits needed before.pairs mid
+  is_swept trees first mid codes items l listed same keeps = record {
+    codes = codes;
+    listed = listed ∙ same;
+    keeps = keeps;
+    full = let a = all_codes in let n = c.news in omega (arith, a, n, l);
+  }
 
-  pub full_ready : (mid : Contents) → IsBook mid → IsSwept trees first bits needed before.pairs mid.pairs → (need : ℕ) → need ≡ length mid.pairs + length (without_code before.pairs needed) → 2 ^ bits ≤ need →
-      IsFull trees first bits needed before.pairs need
-  full_ready mid kept s need e more =
-      subst (IsFull trees first bits needed before.pairs) (sym e)
-      (full_swept trees first bits needed before.pairs sound.paired few apart mid.pairs (keeps_listed mid.pairs s) kept.paired s.full (subst (λ (n : ℕ). 2 ^ bits ≤ n) e more))
+  pub room_swept : (trees : List Tree) (first : ℕ) (mid : Contents) → IsSwept trees first bits needed before.pairs mid.pairs → length mid.pairs + new < 2 ^ bits → mid.bits ≡ before.bits → IsBook mid → HasRoom trees first bits needed before.pairs mid
+  room_swept trees first mid swept room same sound = record {
+    ready = inr swept;
+    room = let n = c.news in omega (arith, n, room);
+    same_bits = same ∙ c.same_bits;
+    sound = sound;
+  }
 
-  -- an end says what it has to
-  pub end_ready : (mid : Contents) → IsBook mid → IsSwept trees first bits needed before.pairs mid.pairs → (wanted : ℕ) → wanted ≡ length mid.pairs + length (without_code before.pairs needed) → (e : CodesEnd) → TakesTooMany bits wanted e →
-      IsCodesEnd trees first bits needed before.pairs e
-  end_ready mid kept s wanted w (codes.CodesFull need) (e, more) = full_ready mid kept s need (e ∙ w) (subst (λ (n : ℕ). 2 ^ bits ≤ n) (sym e) more)
-  end_ready mid kept s wanted w codes.NoMemory h = tt
+  pub none_counted : ((t : Text) → Has needed t → code_of before.pairs t ≢ None) → new ≡ 0
+  none_counted coded = c.news ∙ none_new before.pairs needed coded
+
+  module _ (trees : List Tree) (first : ℕ) (apart : AllApart needed) where
+    keeps_listed : (mid : Pairs) (s : IsSwept trees first bits needed before.pairs mid) → Keeps (stays trees first bits (codes_in before.pairs needed)) before.pairs mid
+    keeps_listed mid s = subst (λ (cs : List ℕ). Keeps (stays trees first bits cs) before.pairs mid) s.listed s.keeps
+
+    ready_new : (mid : Pairs) → IsReady trees first bits needed before.pairs mid → without_code mid needed ≡ without_code before.pairs needed
+    ready_new mid (inl e) = ap (λ b. without_code b needed) e
+    ready_new mid (inr s) = new_stay trees first bits needed before.pairs c.sound.paired mid (keeps_listed mid s)
+
+    pub room_ready : (mid : Contents) → HasRoom trees first bits needed before.pairs mid → length mid.pairs + length (without_code mid.pairs needed) < 2 ^ mid.bits
+    room_ready mid r = rw (ready_new mid.pairs r.ready, r.same_bits) r.room
+
+    pub served_ready : (mid : Contents) (after : Pairs) → HasRoom trees first bits needed before.pairs mid → GivesAll mid.bits needed mid.pairs after → IsServed trees first bits needed before.pairs after
+    served_ready mid after r gives = by_case r.ready
+      where
+        all : GivesAll bits needed mid.pairs after
+        all = subst (λ (n : ℕ). GivesAll n needed mid.pairs after) r.same_bits gives
+
+        by_case : IsReady trees first bits needed before.pairs mid.pairs → IsServed trees first bits needed before.pairs after
+        by_case (inl e) =
+            served_free trees first bits needed before.pairs c.sound.paired few_pairs apart after (subst (λ b. length b + length (without_code before.pairs needed) < 2 ^ bits) e r.room)
+            (subst (λ b. GivesAll bits needed b after) e all)
+        by_case (inr s) = served_swept trees first bits needed before.pairs c.sound.paired few_pairs apart mid.pairs (keeps_listed mid.pairs s) r.sound.paired s.full after r.room all
+
+    -- where there is no new text
+    pub served_none : new ≡ 0 → IsServed trees first bits needed before.pairs before.pairs
+    served_none e = served_ready before before.pairs (room_free trees first (omega (arith, e))) (gives_none before.bits needed before.pairs (sym c.news ∙ e))
+
+    -- an end says what it has to
+    pub end_ready : (mid : Contents) → IsBook mid → IsSwept trees first bits needed before.pairs mid.pairs → (e : CodesEnd) → TakesTooMany bits (length mid.pairs + new) e → IsCodesEnd trees first bits needed before.pairs e
+    end_ready mid sound s (codes.CodesFull need) (e, more) =
+        let n : length mid.pairs + new ≡ length mid.pairs + length (without_code before.pairs needed) = ap (λ (k : ℕ). length mid.pairs + k) c.news in
+        subst (IsFull trees first bits needed before.pairs) (sym (e ∙ n))
+        (full_swept trees first bits needed before.pairs c.sound.paired few_pairs apart mid.pairs (keeps_listed mid.pairs s) sound.paired s.full (subst (λ (k : ℕ). 2 ^ bits ≤ k) n more))
+    end_ready mid sound s codes.NoMemory h = tt

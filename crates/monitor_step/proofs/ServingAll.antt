@@ -56,7 +56,7 @@ all_behind : {A : Type 0} (P : A → Type 0) (fs bs : List A) → AllByRecursion
 all_behind P [] bs h = h
 all_behind P (f ∷ fs) bs h = all_behind P fs bs h.1
 
-all_more : {A : Type 0} (P : A → Type 0) (xs : List A) (x : A) → AllByRecursion P xs → P x → AllByRecursion P (xs ++ x ∷ [])
+pub all_more : {A : Type 0} (P : A → Type 0) (xs : List A) (x : A) → AllByRecursion P xs → P x → AllByRecursion P (xs ++ x ∷ [])
 all_more P [] x h p = (p, tt)
 all_more P (y ∷ xs) x h p = (h.0, all_more P xs x h.1 p)
 

@@ -119,9 +119,9 @@ fn make_room<L: Ledger>(
 {
     let _free = book.free_count();
     sweep(table, remembered, block, book, needed_codes, steps);
-    let free = book.free_count();
-    if free < new {
-        let given = (1 << block.bits) - 1 - free;
+    let left = book.free_count();
+    if left < new {
+        let given = (1 << block.bits) - 1 - left;
         return Err(CodesEnd::CodesFull { need: given + new });
     }
     Ok(())
@@ -200,12 +200,12 @@ fn serve_variable<L: Ledger>(
     ensures cost { steps.new ≤ steps.old + (2 ^ block.bits - 1) * ((table.old.room + 2) * (2 * block.bits + 1)) }
     ensures idle { remembered.now ≡ [] → steps.new ≡ steps.old }
 {
-    let _free = book.free_count();
+    let free = book.free_count();
     let new = count_new(entries, variable, event, book);
     if new == 0 {
         return Ok(());
     }
-    if book.free_count() < new {
+    if free < new {
         list_codes(entries, variable, event, book, needed_codes)?;
         make_room(table, remembered, block, book, needed_codes, new, steps)?;
     }

@@ -19,7 +19,7 @@ ghost use Rattle.monitor_step.specs.Stands.{AreTexts, first_memory};
 ghost use Rattle.monitor_step.specs.Monitor.{IsUntimed, MonitorStands, StepAnswers, AreCoded, HasSmallAtoms, step_bound, variables_of, now_of, memory_of, remembered_of};
 ghost use Rattle.monitor_step.specs.Serving.{pairs_at};
 ghost use Rattle.monitor_step.specs.Steps.{AnswersServing};
-ghost use Rattle.monitor_step.specs.Remembers.{first_memories, Remembers};
+ghost use Rattle.monitor_step.specs.Remembers.{first_memories, source_of, Remembers};
 ghost use Rattle.monitor_step.specs.declared.monitor.StepEnd.TheVariants.{NoMemory as TheNoMemory};
 
 use crate::codes::{ServeEnd, serve_all};
@@ -31,7 +31,7 @@ use qtl_truth::Event;
 use std::alloc::Global;
 use std::marker::Model;
 use std::sync::ledger::Ledger;
-use subformulas::{Kind, NeedList, Plan, needs};
+use subformulas::{Kind, NeedList, Plan, Sub, needs};
 use value_codes::Book;
 
 /// How large a monitor is: the bits of a code, from 1 to 20; the nodes of its table, from 2 to 4,194,304; and the entries of its
@@ -175,11 +175,7 @@ fn first_handle(kind: &Kind, table: &NodeTable) -> Handle
 }
 
 /// The handles of the trees that are remembered before the first event, with room for one more of each subformula.
-fn first_remembered(
-    alloc: Global,
-    plan: &Plan,
-    table: &NodeTable,
-) -> Result<Vec<Handle>, NoMemory>
+fn first_remembered(alloc: Global, plan: &Plan, table: &NodeTable) -> Result<Vec<Handle>, NoMemory>
     ensures trees { IfOk result (λ handles. map (tree_of table.now) handles.items ≡ first_memories plan.now.subs) }
     ensures valid { IfOk result (λ handles. AllValid table.now handles.items) }
 {
@@ -239,6 +235,7 @@ fn serve_event<L: Ledger>(
     ensures cost { steps.new ≤ steps.old + length books.old * ((2 ^ bits - 1) * ((store.old.table.room + 2) * (2 * bits + 1))) }
     ensures idle { remembered.now ≡ [] → steps.new ≡ steps.old }
 {
+    let _count = plan.count();
     needs(alloc, plan, event, list)?;
     serve_all(
         store.table_mut(),
@@ -253,8 +250,17 @@ fn serve_event<L: Ledger>(
     Ok(())
 }
 
-/// Puts the handle of the tree that each temporal subformula remembers after an event among the first handles: its
-/// child's for @, else its own.
+/// The number of the subformula whose tree temporal subformula k remembers: its child for @, else itself.
+fn source_of(sub: &Sub, k: u32) -> u32
+    ensures { result ≡ source_of sub.now.kind sub.now.left k }
+{
+    match sub.kind {
+        Kind::Prev => sub.left,
+        _ => k,
+    }
+}
+
+/// Puts the handle of the tree that each temporal subformula remembers after an event among the first handles.
 fn remember(plan: &Plan, handles: &mut Vec<Handle>, remembered: usize)
     requires remembered { remembered ≡ temporal_count plan.now.subs }
     requires count { length handles.old.items ≡ remembered + length plan.now.subs }
@@ -264,11 +270,7 @@ fn remember(plan: &Plan, handles: &mut Vec<Handle>, remembered: usize)
     for k in 0..plan.count() {
         let sub = plan.sub(k + 1);
         if is_temporal(&sub.kind) {
-            let place = match sub.kind {
-                Kind::Prev => sub.left - 1,
-                _ => k,
-            };
-            handles[next] = handles[remembered + place as usize];
+            handles[next] = handles[remembered + source_of(sub, k + 1) as usize - 1];
             next += 1;
         }
     }
@@ -369,6 +371,7 @@ impl Monitor {
             option_map (λ q. q.root) (slice_get self.now.plan.props p) ≡ Some root → variables_of self.now ≤ length nu →
             IsTrue result ↔ TrueCore log nu (formula_at self.now.plan.subs root) i }
     {
+        let _nodes = self.store.live();
         self.now(self.plan.root(p)) == self.store.table().one()
     }
 
@@ -441,9 +444,10 @@ impl Monitor {
         requires { v < variables_of self.now }
         ensures { result ≡ record { first = v * self.now.bits; bits = self.now.bits } }
     {
+        let bits = self.bits;
         Block {
-            first: v as u16 * self.bits as u16,
-            bits: self.bits,
+            first: v as u16 * bits as u16,
+            bits,
         }
     }
 }

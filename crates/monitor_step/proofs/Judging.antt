@@ -1,0 +1,52 @@
+-- The verdict of a property is whether its handle is that of the leaf that is true.
+use Rattle.std.proofs.Common.{◌≡◌, ◌≢◌, ℕ, ◌-◌, ◌≤◌, ◌⊎◌, ◌↔◌, inl, inr, refl, sym, ap, ◌∙◌, subst, arith, List, [], length, Bool, true, false, Option, Some, None, IsTrue, eqb}
+use Rattle.std.specs.Prelude.{slice_get}
+use Rattle.std.specs.Option.{option_map}
+use Rattle.std.proofs.lemmas.Bool.Decides.{eqb_tells}
+use Rattle.qtl_syntax.specs.Tree.{Text}
+use Rattle.qtl_truth.specs.declared.event.Event.{Event}
+use Rattle.wellformed.specs.CoreTruth.{TrueCore}
+use Rattle.wellformed.specs.Sound.{is_closed}
+use Rattle.subformulas.specs.declared.table.PlanProp.{PlanProp}
+use Rattle.subformulas.specs.Assigned.{texts_in, Truth}
+use Rattle.subformulas.specs.Table.{IsClosedProp, HasRoot}
+use Rattle.subformulas.specs.Unfolded.{formula_at}
+use Rattle.subformulas.proofs.Below.{each_atom_below}
+use Rattle.subformulas.proofs.ByNumber.{all_at}
+use Rattle.subformulas.proofs.Closed.{IsClosed, closed_is}
+use Rattle.subformulas.proofs.FromLists.{in_list, truth_read}
+use Rattle.node_tree.specs.Tree.{Tree, Zero, One}
+use Rattle.node_table.specs.Table.{tree_of, IsValid, IsShared}
+use Rattle.monitor_step.specs.Monitor.{State, IsSound, MonitorStands, variables_of, now_of}
+use Rattle.monitor_step.proofs.Verdict.{verdict}
+
+root_of : (o : Option PlanProp) (root : ℕ) → option_map (λ q. q.root) o ≡ Some root → (q : PlanProp) × (o ≡ Some q) × (q.root ≡ root)
+root_of None root e = absurd (let none : ⊥ = cc in none)
+root_of (Some q) root e = (q, refl, cc)
+
+pub verdict_is : (m : State) → IsSound m → IsShared m.shelf.table → (p root now one : ℕ) → option_map (λ q. q.root) (slice_get m.plan.props p) ≡ Some root →
+    IsValid m.shelf.table now → tree_of m.shelf.table now ≡ now_of m root → IsValid m.shelf.table one → tree_of m.shelf.table one ≡ One → 1 ≤ m.events →
+    (log : List Event) (i : ℕ) (nu : List Text) → MonitorStands m log i → variables_of m ≤ length nu → IsTrue (eqb now one) ↔ TrueCore log nu (formula_at m.plan.subs root) i
+verdict_is m sound shared p root now one at valid tree one_valid one_tree some log i nu stands long = by_root (root_of (slice_get m.plan.props p) root at)
+  where
+    by_root : (q : PlanProp) × (slice_get m.plan.props p ≡ Some q) × (q.root ≡ root) → IsTrue (eqb now one) ↔ TrueCore log nu (formula_at m.plan.subs root) i
+    by_root (q, get, same) = by_tree (verdict m.bits m.plan.subs log i stands.books root (now_of m root) closed (stands.stands.now_is later root within.0 within.1) (texts_in nu)) (eqb_tells now one)
+      where
+        closed : IsClosed (formula_at m.plan.subs root)
+        closed = closed_is (formula_at m.plan.subs root) (subst (λ (k : ℕ). IsTrue (is_closed [] (formula_at m.plan.subs k))) same (all_at (IsClosedProp m.plan.subs) m.plan.props p q sound.plan.closed get))
+
+        within : (1 ≤ root) × (root ≤ length m.plan.subs)
+        within = subst (λ (k : ℕ). (1 ≤ k) × (k ≤ length m.plan.subs)) same (all_at (HasRoot (length m.plan.subs)) m.plan.props p q sound.plan.roots get)
+
+        later : 1 ≤ i
+        later = let e = stands.events in omega (arith, e, some)
+
+        reads : TrueCore log nu (formula_at m.plan.subs root) i ↔ Truth log (formula_at m.plan.subs root) (texts_in nu) i
+        reads = truth_read log (variables_of m) (formula_at m.plan.subs root) (each_atom_below (variables_of m) m.plan.subs sound.plan.table sound.plan.uses root within.0 within.1) nu (texts_in nu) (λ x l. in_list nu x (omega (arith, long, l))) i
+
+        by_tree : ((now_of m root ≡ One) × Truth log (formula_at m.plan.subs root) (texts_in nu) i) ⊎ ((now_of m root ≡ Zero) × (¬ Truth log (formula_at m.plan.subs root) (texts_in nu) i)) →
+            ((eqb now one ≡ true) × (now ≡ one)) ⊎ ((eqb now one ≡ false) × (now ≢ one)) → IsTrue (eqb now one) ↔ TrueCore log nu (formula_at m.plan.subs root) i
+        by_tree (inl h) (inl t) = (λ x. reads.1 h.1, λ x. t.0)
+        by_tree (inl h) (inr t) = absurd (t.1 (shared.one_handle now one valid one_valid (tree ∙ (h.0 ∙ sym one_tree))))
+        by_tree (inr h) (inl t) = absurd (let no : Zero ≡ One = sym h.0 ∙ (sym tree ∙ (ap (tree_of m.shelf.table) t.1 ∙ one_tree)) in cc)
+        by_tree (inr h) (inr t) = (λ x. absurd (let no : true ≡ false = sym x ∙ t.0 in cc), λ x. absurd (h.1 (reads.0 x)))

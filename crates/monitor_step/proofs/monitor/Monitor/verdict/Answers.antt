@@ -1,0 +1,29 @@
+use Rattle.std.proofs.Common.{◌≡◌, ℕ, ◌≤◌, ◌<◌, ◌∙◌, ◌↔◌, sym, subst, ap, Some, IsTrue}
+use Rattle.std.specs.Prelude.{slice_get}
+use Rattle.std.specs.Option.{option_map}
+use Rattle.subformulas.specs.declared.table.PlanProp.{PlanProp}
+use Rattle.node_tree.specs.Tree.{One}
+use Rattle.node_table.specs.Table.{Table, tree_of, IsValid, IsShared}
+use Rattle.subformulas.specs.Unfolded.{formula_at}
+use Rattle.wellformed.specs.CoreTruth.{TrueCore}
+use Rattle.monitor_step.specs.Monitor.{State, IsSound, now_of}
+use Rattle.monitor_step.proofs.Judging.{verdict_is}
+use Rattle.monitor_step.proofs.monitor.Monitor.verdict.Goals as goal
+
+some_same : (a b : ℕ) → Some a ≡ Some b → a ≡ b
+some_same a b e = cc
+
+pub returns : goal.returns
+returns c = record {
+  truth = λ log i root nu stands at long.
+      let m = c.args.self.now in
+      let sound = subst IsSound c.self.view_is c.self.invariant.0 in
+      let shared = subst (λ (n : State). IsShared n.shelf.table) c.self.view_is c.live-nodes.ensures.shared in
+      let one = c.one.result in
+      let valid = subst (λ (n : State). IsValid n.shelf.table one) c.self.view_is (subst (λ (t : Table). IsValid t one) c.table.ensures c.one.ensures.valid) in
+      let tree = subst (λ (n : State). tree_of n.shelf.table one ≡ One) c.self.view_is (subst (λ (t : Table). tree_of t one ≡ One) c.table.ensures c.one.ensures.tree) in
+      let same = some_same c.root.result root (sym (subst (λ (n : State). option_map (λ (q : PlanProp). q.root) (slice_get n.plan.props c.args.p) ≡ Some c.root.result) c.self.view_is c.root.ensures) ∙ at) in
+      let own = c.now.ensures.tree ∙ ap (now_of m) same in
+      subst (λ b. IsTrue b ↔ TrueCore log nu (formula_at m.plan.subs root) i) (sym c.eq.ensures)
+      (verdict_is m sound shared c.args.p root c.now.result one at c.now.ensures.valid own valid tree c.requires.some log i nu stands long);
+}
