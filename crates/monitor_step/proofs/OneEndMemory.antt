@@ -15,19 +15,7 @@ use Rattle.node_tree.specs.Tree.{Tree}
 use Rattle.operation_rows.specs.Fitting.{row_size}
 use Rattle.monitor_step.specs.Rows.{rows_of_kind, result_of, tree_at, rows_after, tree_after, trees_from}
 use Rattle.monitor_step.specs.Ends.{Sources, sources, memories, first_trees, rows_over, rows_at, kept_at, node_need, NodesFit, IsFirstFull}
-use Rattle.monitor_step.proofs.TreesFrom.{trees_count}
-
--- the rows of a kind and their result look at the remembered tree of a temporal kind alone
-kind_rows : (width : ℕ) (cube : Atom → Tree) (k : Kind) (f g m m' : Tree) → (IsTrue (is_temporal k) → m ≡ m') → rows_of_kind width cube k f g m ≡ rows_of_kind width cube k f g m'
-kind_rows width cube kind.Since f g m m' e = ap (rows_of_kind width cube kind.Since f g) (e refl)
-kind_rows width cube kind.Once f g m m' e = ap (rows_of_kind width cube kind.Once f g) (e refl)
-kind_rows width cube kind.Always f g m m' e = ap (rows_of_kind width cube kind.Always f g) (e refl)
-kind_rows width cube kind.Interval f g m m' e = ap (rows_of_kind width cube kind.Interval f g) (e refl)
-kind_rows width cube _ f g m m' e = refl
-
-kind_result : (k : Kind) (m m' : Tree) (rows : List Tree) → (IsTrue (is_temporal k) → m ≡ m') → result_of k m rows ≡ result_of k m' rows
-kind_result kind.Prev m m' rows e = e refl
-kind_result _ m m' rows e = refl
+use Rattle.monitor_step.proofs.TreesFrom.{memory_same, result_same, trees_count}
 
 -- the same tree is remembered of each temporal subformula of a list whose first one has number n
 abbrev SameFrom : (memory other : ℕ → Tree) → ℕ → List Sub → Type 0
@@ -53,13 +41,13 @@ module _ (memory other : ℕ → Tree) where
   module _ (width : ℕ) (cube : Atom → Tree) where
     same_rows : (done : List Tree) (s : Sub) → (IsTrue (is_temporal s.kind) → memory (length done + 1) ≡ other (length done + 1)) →
         rows_after width cube memory done s ≡ rows_after width cube other done s
-    same_rows done s h = kind_rows width cube s.kind (tree_at done s.left) (tree_at done s.right) (memory (length done + 1)) (other (length done + 1)) h
+    same_rows done s h = memory_same width cube s.kind (tree_at done s.left) (tree_at done s.right) (memory (length done + 1)) (other (length done + 1)) h
 
     same_tree : (done : List Tree) (s : Sub) → (IsTrue (is_temporal s.kind) → memory (length done + 1) ≡ other (length done + 1)) →
         tree_after width cube memory done s ≡ tree_after width cube other done s
     same_tree done s h =
         ap (result_of s.kind (memory (length done + 1))) (same_rows done s h)
-        ∙ kind_result s.kind (memory (length done + 1)) (other (length done + 1)) (rows_after width cube other done s) h
+        ∙ result_same s.kind (memory (length done + 1)) (other (length done + 1)) (rows_after width cube other done s) h
 
     same_trees : (done : List Tree) (subs : List Sub) → SameFrom memory other (length done + 1) subs → trees_from width cube memory done subs ≡ trees_from width cube other done subs
     same_trees done [] h = refl
