@@ -36,3 +36,4 @@ pub mod OneEndFull
 pub mod OneEnd
 pub mod FewNeeds
 pub mod StepParts
+pub mod Opening
