@@ -20,6 +20,7 @@ const TEXTS: &[&str] = &["a", "b", "c", "none"];
 /// The next number of the sequence, cut to one below the count.
 fn pick(seed: &mut u32, count: u32) -> u32
     requires { 1 ≤ count }
+    ensures { result < count }
 {
     *seed = seed.wrapping_mul(1_664_525).wrapping_add(1_013_904_223);
     (*seed >> 16) % count
