@@ -33,3 +33,4 @@ pub mod Judging
 pub mod ComposingEvent
 pub mod FewNeeds
 pub mod StepParts
+pub mod Opening

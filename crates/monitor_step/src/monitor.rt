@@ -330,6 +330,7 @@ impl Monitor {
         ensures no_memory { HasSmallAtoms self.old.plan → AreCoded self.old event.now → ¬ IsErrOf result TheNoMemory }
         ensures cost { IsLarge self.old.shelf → steps.new ≤ steps.old + step_bound self.old }
     {
+        let _nodes = self.store.live();
         self.live = false;
         serve_event(
             self.alloc,
