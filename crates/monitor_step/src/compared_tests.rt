@@ -108,7 +108,7 @@ fn first_unlike<L: Ledger>(
 const SPECS: &[&str] = &[
     "prop a : forall x . p(x) -> exists y . [q(x,y),p(y))",
     "prop b : exists x . (exists y . ! q(x,y) & P p(y)) S p(x)",
-    "prop c : exists x . H (p(x) -> @ exists y . q(y,x))",
+    "prop c : forall x . H (p(x) -> exists y . @ (p(y) | H ! q(y,x)))",
     "pred led(x,y) = (! p(y)) S q(x,y) prop d : forall x . (P p(x)) -> (exists y . led(x,y)) | led(\"a\",x)",
     "prop e : exists x . [p(x) | exists y . q(y,x),q(x,\"b\")) & ! @ P q(\"a\",x)",
     "prop f : forall x . forall y . P (q(x,y) & @ p(x)) -> ((exists x . q(x,y)) S p(y)) <-> ! q(y,x)",
