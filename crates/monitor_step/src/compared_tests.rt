@@ -20,6 +20,7 @@ const TEXTS: &[&str] = &["a", "b", "c", "none"];
 /// The next number of the sequence, cut to one below the count.
 fn pick(seed: &mut u32, count: u32) -> u32
     requires { 1 ≤ count }
+    ensures { result < count }
 {
     *seed = seed.wrapping_mul(1_664_525).wrapping_add(1_013_904_223);
     (*seed >> 16) % count
@@ -107,7 +108,7 @@ fn first_unlike<L: Ledger>(
 const SPECS: &[&str] = &[
     "prop a : forall x . p(x) -> exists y . [q(x,y),p(y))",
     "prop b : exists x . (exists y . ! q(x,y) & P p(y)) S p(x)",
-    "prop c : exists x . H (p(x) -> @ exists y . q(y,x))",
+    "prop c : forall x . H (p(x) -> exists y . @ (p(y) | H ! q(y,x)))",
     "pred led(x,y) = (! p(y)) S q(x,y) prop d : forall x . (P p(x)) -> (exists y . led(x,y)) | led(\"a\",x)",
     "prop e : exists x . [p(x) | exists y . q(y,x),q(x,\"b\")) & ! @ P q(\"a\",x)",
     "prop f : forall x . forall y . P (q(x,y) & @ p(x)) -> ((exists x . q(x,y)) S p(y)) <-> ! q(y,x)",

@@ -297,7 +297,13 @@ const CASES: &[Case] = &[
 fn answers_are_as_worked_by_hand(rt: HostRuntime) -> Result<(), Fail> {
     for case in CASES {
         let (verdicts, end) = answers::<Brand>(rt.alloc(), case, Blank::new(1))?;
-        assert_eq!(rt; verdicts.as_str(), case.verdicts, "{} at {}", case.spec, case.log);
+        assert_eq!(rt;
+            verdicts.as_str(),
+            case.verdicts,
+            "{} at {}",
+            case.spec,
+            case.log
+        );
         assert_eq!(rt; end, case.end, "{} at {}", case.spec, case.log);
     }
     Ok(())
