@@ -1,9 +1,9 @@
 -- The rows of one subformula more.
-use Rattle.std.proofs.Common.{◌≡◌, ℕ, zero, suc, ◌+◌, ◌-◌, ◌*◌, ◌<◌, ◌≤◌, ◌⊎◌, inl, inr, ⊎_elim, refl, sym, ap, ◌∙◌, subst, arith, List, [], ◌∷◌, ◌++◌, length, length-append, append_assoc, append-nil, map, take, get_or, Bool, true, false, Some, None, Option, IsTrue}
+use Rattle.std.proofs.Common.{◌≡◌, ℕ, zero, suc, ◌+◌, ◌-◌, ◌*◌, ◌<◌, ◌≤◌, ◌⊎◌, inl, inr, ⊎_elim, refl, sym, ap, ◌∙◌, subst, arith, List, [], ◌∷◌, ◌++◌, length, length-append, append_assoc, map, take, get_or, Bool, true, false, Some, IsTrue}
 use Rattle.std.proofs.Math.Nat.{add-mul, mul-le-mul_right}
 use Rattle.node_table.specs.Collects.{AllValid}
 use Rattle.bdd_ops.proofs.Tries.{same_map}
-use Rattle.std.specs.Prelude.{set, slice_get, slice_index_or, Result, Ok, Err, if◌then◌else◌}
+use Rattle.std.specs.Prelude.{set, slice_get, slice_index_or, Ok, Err, if◌then◌else◌}
 use Rattle.std.specs.List.{Contains, sum_by}
 use Rattle.std.proofs.lemmas.Bool.{cases_lt}
 use Rattle.std.proofs.lemmas.List.{take_more, take_more_set, map-append, get_or_append_left, get_or-append_right, get_or-map, length-take-le, length-map}
