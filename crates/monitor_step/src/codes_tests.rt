@@ -4,7 +4,7 @@ ghost use Rattle.std.specs.Prelude.{◌≡◌, ◌<◌, ◌≤◌, ⊤, length, 
 ghost use Rattle.std.specs.List.{AllByRecursion};
 ghost use Rattle.node_table.specs.Table.{IsValid};
 
-use crate::{ServeEnd, serve_all};
+use crate::codes::{ServeEnd, serve_all};
 use bdd_ops::{Literal, Store, cube};
 use mon_base::Steps;
 use node_table::{Handle, NodeTable};

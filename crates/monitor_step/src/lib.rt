@@ -3,11 +3,18 @@
 
 mod atom_row;
 mod codes;
-#[cfg(test)]
-mod codes_tests;
 mod event_rows;
 pub mod laws;
 mod monitor;
 mod subformula_rows;
 
 pub use monitor::{Monitor, Sizes, StepEnd};
+
+#[cfg(test)]
+mod codes_tests;
+#[cfg(test)]
+mod compared_tests;
+#[cfg(test)]
+mod slow_truth;
+#[cfg(test)]
+mod tests;
