@@ -1,10 +1,8 @@
 -- The literals of an atom's row.
-use Rattle.std.proofs.Common.{◌≡◌, ℕ, zero, suc, ◌+◌, ◌-◌, ◌*◌, ◌/◌, ◌%◌, ◌<◌, ◌≤◌, refl, sym, ap, ◌∙◌, subst, arith, List, [], ◌∷◌, ◌++◌, length, length-append, append_assoc, append-nil, Bool, true, false, Some, None, Option, add-one}
+use Rattle.std.proofs.Common.{◌≡◌, ℕ, zero, suc, ◌+◌, ◌-◌, ◌*◌, ◌/◌, ◌%◌, ◌<◌, ◌≤◌, refl, sym, ap, ◌∙◌, subst, arith, List, [], ◌∷◌, ◌++◌, length, length-append, append_assoc, true, false, Some, None, add-one}
 use Rattle.std.proofs.Math.Nat.{mul_comm, mul-suc, mul-le-mul_right}
 use Rattle.monitor_step.specs.Serving.{pairs_at}
-use Rattle.std.specs.Prelude.{Result, Ok, Err, IsErrAnd, get_or, nat_eq, if◌then◌else◌, slice_get, slice_index_or}
-use Rattle.std.specs.Option.{option_and_then}
-use Rattle.qtl_syntax.specs.Tree.{Text}
+use Rattle.std.specs.Prelude.{Result, Ok, Err, IsErrAnd, get_or, nat_eq, if◌then◌else◌}
 use Rattle.qtl_truth.specs.declared.event.Event.{Event}
 use Rattle.qtl_truth.specs.declared.matching.Place.{Place}
 use Rattle.qtl_truth.specs.declared.numbered_atom.Atom.{Atom}

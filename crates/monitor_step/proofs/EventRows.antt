@@ -1,9 +1,9 @@
 -- The rows of one subformula more.
-use Rattle.std.proofs.Common.{◌≡◌, ℕ, zero, suc, ◌+◌, ◌-◌, ◌*◌, ◌<◌, ◌≤◌, ◌⊎◌, inl, inr, ⊎_elim, refl, sym, ap, ◌∙◌, subst, arith, List, [], ◌∷◌, ◌++◌, length, length-append, append_assoc, append-nil, map, take, get_or, Bool, true, false, Some, None, Option, IsTrue}
+use Rattle.std.proofs.Common.{◌≡◌, ℕ, zero, suc, ◌+◌, ◌-◌, ◌*◌, ◌<◌, ◌≤◌, ◌⊎◌, inl, inr, ⊎_elim, refl, sym, ap, ◌∙◌, subst, arith, List, [], ◌∷◌, ◌++◌, length, length-append, append_assoc, map, take, get_or, Bool, true, false, Some, IsTrue}
 use Rattle.std.proofs.Math.Nat.{add-mul, mul-le-mul_right}
 use Rattle.node_table.specs.Collects.{AllValid}
 use Rattle.bdd_ops.proofs.Tries.{same_map}
-use Rattle.std.specs.Prelude.{set, slice_get, slice_index_or, Result, Ok, Err, if◌then◌else◌}
+use Rattle.std.specs.Prelude.{set, slice_get, slice_index_or, Ok, Err, if◌then◌else◌}
 use Rattle.std.specs.List.{Contains, sum_by}
 use Rattle.std.proofs.lemmas.Bool.{cases_lt}
 use Rattle.std.proofs.lemmas.List.{take_more, take_more_set, map-append, get_or_append_left, get_or-append_right, get_or-map, length-take-le, length-map}
@@ -25,58 +25,10 @@ use Rattle.operation_rows.specs.Fitting.{row_size, FitTo, MakesRows}
 use Rattle.monitor_step.specs.Answers.{memory_in, temporal_count}
 use Rattle.monitor_step.specs.Ends.{Sources, memories, first_trees, rows_at, rows_over, kept_at, node_need, NodesFit, IsFirstFull}
 use Rattle.monitor_step.specs.Rows.{rows_of_kind, result_of, rows_after, tree_after, tree_at, trees_from}
-use Rattle.monitor_step.proofs.TreesFrom.{rows_same, trees_count}
+use Rattle.monitor_step.proofs.TreesFrom.{rows_same, memory_same, result_same, trees_count}
 
 some_same : (r s : Sub) → Some r ≡ Some s → r ≡ s
 some_same r s e = cc
-
--- the rows of a kind look at the remembered tree of a temporal kind alone
-memory_same : (width : ℕ) (cube : Atom → Tree) (k : Kind) (f g m m' : Tree) → (IsTrue (is_temporal k) → m ≡ m') → rows_of_kind width cube k f g m ≡ rows_of_kind width cube k f g m'
-memory_same width cube kind.Since f g m m' e = ap (λ x. rows_of_kind width cube kind.Since f g x) (e refl)
-memory_same width cube kind.Once f g m m' e = ap (λ x. rows_of_kind width cube kind.Once f g x) (e refl)
-memory_same width cube kind.Always f g m m' e = ap (λ x. rows_of_kind width cube kind.Always f g x) (e refl)
-memory_same width cube kind.Interval f g m m' e = ap (λ x. rows_of_kind width cube kind.Interval f g x) (e refl)
-memory_same width cube kind.Prev f g m m' e = refl
-memory_same width cube kind.True f g m m' e = refl
-memory_same width cube kind.False f g m m' e = refl
-memory_same width cube (kind.Atom a) f g m m' e = refl
-memory_same width cube kind.Not f g m m' e = refl
-memory_same width cube kind.And f g m m' e = refl
-memory_same width cube kind.Or f g m m' e = refl
-memory_same width cube kind.Implies f g m m' e = refl
-memory_same width cube kind.Iff f g m m' e = refl
-memory_same width cube (kind.Exists x) f g m m' e = refl
-memory_same width cube (kind.Forall x) f g m m' e = refl
-memory_same width cube (kind.SinceAtMost n) f g m m' e = refl
-memory_same width cube (kind.SinceMoreThan n) f g m m' e = refl
-memory_same width cube (kind.OnceAtMost n) f g m m' e = refl
-memory_same width cube (kind.OnceMoreThan n) f g m m' e = refl
-memory_same width cube (kind.AlwaysAtMost n) f g m m' e = refl
-memory_same width cube (kind.AlwaysMoreThan n) f g m m' e = refl
-
--- and so does the result
-result_same : (k : Kind) (m m' : Tree) (rows : List Tree) → (IsTrue (is_temporal k) → m ≡ m') → result_of k m rows ≡ result_of k m' rows
-result_same kind.Prev m m' rows e = e refl
-result_same kind.True m m' rows e = refl
-result_same kind.False m m' rows e = refl
-result_same (kind.Atom a) m m' rows e = refl
-result_same kind.Not m m' rows e = refl
-result_same kind.And m m' rows e = refl
-result_same kind.Or m m' rows e = refl
-result_same kind.Implies m m' rows e = refl
-result_same kind.Iff m m' rows e = refl
-result_same (kind.Exists x) m m' rows e = refl
-result_same (kind.Forall x) m m' rows e = refl
-result_same kind.Since m m' rows e = refl
-result_same kind.Once m m' rows e = refl
-result_same kind.Always m m' rows e = refl
-result_same kind.Interval m m' rows e = refl
-result_same (kind.SinceAtMost n) m m' rows e = refl
-result_same (kind.SinceMoreThan n) m m' rows e = refl
-result_same (kind.OnceAtMost n) m m' rows e = refl
-result_same (kind.OnceMoreThan n) m m' rows e = refl
-result_same (kind.AlwaysAtMost n) m m' rows e = refl
-result_same (kind.AlwaysMoreThan n) m m' rows e = refl
 
 -- a handle is one of the first n
 pub among_first : (hs : List ℕ) (n i h : ℕ) → slice_get hs i ≡ Some h → i < n → (i < length (take n hs)) × (slice_index_or (take n hs) i h ≡ h)

@@ -1,5 +1,5 @@
 -- An event gives a variable no more texts than there are subformulas.
-use Rattle.std.proofs.Common.{◌≡◌, ℕ, ◌+◌, ◌*◌, ◌≤◌, refl, arith, List, [], ◌∷◌, ◌++◌, length, length-append, Bool, true, false, Option, Some, None}
+use Rattle.std.proofs.Common.{ℕ, ◌*◌, ◌≤◌, arith, List, [], ◌∷◌, length, length-append, Bool, true, false, Option, Some, None}
 use Rattle.std.specs.Prelude.{if◌then◌else◌, bytes_eq}
 use Rattle.std.specs.List.{flat_map, list_any}
 use Rattle.std.proofs.Math.Nat.{mul-le-mul_left, mul-le-mul_right}

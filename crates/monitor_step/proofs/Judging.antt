@@ -1,5 +1,5 @@
 -- The verdict of a property is whether its handle is that of the leaf that is true.
-use Rattle.std.proofs.Common.{◌≡◌, ◌≢◌, ℕ, ◌-◌, ◌≤◌, ◌⊎◌, ◌↔◌, inl, inr, refl, sym, ap, ◌∙◌, subst, arith, List, [], length, Bool, true, false, Option, Some, None, IsTrue, eqb}
+use Rattle.std.proofs.Common.{◌≡◌, ◌≢◌, ℕ, ◌≤◌, ◌⊎◌, ◌↔◌, inl, inr, refl, sym, ap, ◌∙◌, subst, arith, List, [], length, true, false, Option, Some, None, IsTrue, eqb}
 use Rattle.std.specs.Prelude.{slice_get}
 use Rattle.std.specs.Option.{option_map}
 use Rattle.std.proofs.lemmas.Bool.Decides.{eqb_tells}
@@ -15,7 +15,7 @@ use Rattle.subformulas.proofs.Below.{each_atom_below}
 use Rattle.subformulas.proofs.ByNumber.{all_at}
 use Rattle.subformulas.proofs.Closed.{IsClosed, closed_is}
 use Rattle.subformulas.proofs.FromLists.{in_list, truth_read}
-use Rattle.node_tree.specs.Tree.{Tree, Zero, One}
+use Rattle.node_tree.specs.Tree.{Zero, One}
 use Rattle.node_table.specs.Table.{tree_of, IsValid, IsShared}
 use Rattle.monitor_step.specs.Monitor.{State, IsSound, MonitorStands, variables_of, now_of}
 use Rattle.monitor_step.proofs.Verdict.{verdict}

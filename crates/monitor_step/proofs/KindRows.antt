@@ -1,6 +1,6 @@
 -- The rows of one kind.
-use Rattle.std.proofs.Common.{◌≡◌, ℕ, zero, suc, ◌+◌, ◌-◌, ◌*◌, ◌<◌, ◌≤◌, refl, sym, ap, ◌∙◌, subst, arith, List, [], ◌∷◌, ◌++◌, length, map, Bool, true, false, Some, None, Option, IsTrue}
-use Rattle.std.specs.Prelude.{Result, Ok, Err, slice_index_or, unwrap_or}
+use Rattle.std.proofs.Common.{◌≡◌, ℕ, zero, suc, ◌*◌, ◌<◌, ◌≤◌, refl, sym, ap, subst, arith, List, [], ◌∷◌, ◌++◌, length, Bool, true, false, Some, None, Option}
+use Rattle.std.specs.Prelude.{Result, Ok, slice_index_or, unwrap_or}
 use Rattle.std.specs.List.{last_or, Contains}
 use Rattle.qtl_truth.specs.declared.numbered_atom.Atom.{Atom}
 use Rattle.node_tree.specs.Tree.{Tree, Zero}
@@ -12,7 +12,6 @@ use Rattle.operation_rows.specs.Fitting.{MakesRows, block_trees}
 use Rattle.quantify.specs.Quantified.{after_rows}
 use Rattle.subformulas.specs.declared.table.Kind.{Kind}
 use Rattle.subformulas.specs.declared.table.Kind.TheVariants as kind
-use Rattle.subformulas.specs.Memory.{is_temporal}
 use Rattle.subformulas.specs.Table.{is_timed}
 use Rattle.monitor_step.specs.Rows.{rows_of_kind, result_of}
 

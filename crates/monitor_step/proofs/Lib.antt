@@ -31,6 +31,9 @@ pub mod Composing
 pub mod Remembering
 pub mod Judging
 pub mod ComposingEvent
+pub mod OneEndMemory
+pub mod OneEndFull
+pub mod OneEnd
 pub mod FewNeeds
 pub mod StepParts
 pub mod Opening

@@ -1,6 +1,6 @@
 -- A monitor before the first event stands for no event.
-use Rattle.std.proofs.Common.{◌≡◌, ℕ, zero, suc, ◌+◌, ◌-◌, ◌≤◌, refl, sym, ap, ◌∙◌, subst, arith, List, [], ◌∷◌, length, map, take, Bool, true, Option, Some, None, IsTrue}
-use Rattle.std.specs.Prelude.{slice_get, slice_index_or}
+use Rattle.std.proofs.Common.{◌≡◌, ℕ, zero, suc, ◌+◌, ◌-◌, ◌≤◌, refl, sym, ap, ◌∙◌, subst, arith, List, [], ◌∷◌, length, map, take, true, Option, Some, None}
+use Rattle.std.specs.Prelude.{slice_get}
 use Rattle.std.specs.List.{AllByRecursion}
 use Rattle.std.proofs.lemmas.List.{length-map}
 use Rattle.qtl_truth.specs.declared.event.Event.{Event}
@@ -9,10 +9,10 @@ use Rattle.subformulas.specs.Memory.{IsTemporal}
 use Rattle.subformulas.specs.Table as plan_table
 use Rattle.subformulas.proofs.Unfold.{by_some}
 use Rattle.node_tree.specs.Tree.{Tree, Zero}
-use Rattle.node_table.specs.Table.{Table, tree_of}
+use Rattle.node_table.specs.Table.{tree_of}
 use Rattle.node_table.specs.Collects.{AllValid}
 use Rattle.value_codes.specs.Pairs.{Contents, code_of}
-use Rattle.monitor_step.specs.Answers.{temporal_count, memory_in}
+use Rattle.monitor_step.specs.Answers.{memory_in}
 use Rattle.monitor_step.specs.Monitor.{State, IsSound, IsUntimed, MonitorStands, variables_of, remembered_of, memory_of, now_of}
 use Rattle.monitor_step.specs.Remembers.{first_memories}
 use Rattle.monitor_step.specs.Serving.{pairs_at}

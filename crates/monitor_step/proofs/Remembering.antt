@@ -1,5 +1,5 @@
 -- What is remembered before the first event, and where the handles of remembered trees stand.
-use Rattle.std.proofs.Common.{◌≡◌, ◌≢◌, ℕ, zero, suc, ◌+◌, ◌-◌, ◌<◌, ◌≤◌, ◌⊎◌, inl, inr, refl, sym, ap, ◌∙◌, subst, set, arith, List, [], ◌∷◌, ◌++◌, append-nil, length, length-append, map, take, drop, Bool, true, false, Option, Some, None, IsTrue}
+use Rattle.std.proofs.Common.{◌≡◌, ◌≢◌, ℕ, zero, suc, ◌+◌, ◌-◌, ◌<◌, ◌≤◌, ◌⊎◌, inl, inr, refl, sym, ap, ◌∙◌, subst, set, arith, List, [], ◌∷◌, ◌++◌, append-nil, length, length-append, take, drop, Bool, true, false, Option, Some, None, IsTrue}
 use Rattle.std.specs.Prelude.{if◌then◌else◌, slice_get, slice_index_or, IsSomeAnd}
 use Rattle.std.proofs.lemmas.List.Sums.{sum_by-cons}
 use Rattle.std.proofs.lemmas.List.{get_or_append_left, get_or-drop, get_or-set_same, get_or-set_other, length-set}
@@ -13,7 +13,7 @@ use Rattle.subformulas.specs.declared.table.Sub.{Sub}
 use Rattle.subformulas.specs.Table.{children, AreChildren, IsTable}
 use Rattle.subformulas.proofs.ByNumber.{row_at}
 use Rattle.subformulas.specs.Memory.{is_temporal, IsTemporal}
-use Rattle.node_tree.specs.Tree.{Tree, Zero}
+use Rattle.node_tree.specs.Tree.{Zero}
 use Rattle.monitor_step.specs.Answers.{temporal_count}
 use Rattle.monitor_step.specs.Monitor.{State, IsSound, remembered_of, now_of, memory_of}
 use Rattle.monitor_step.specs.Remembers.{first_memories, source_of}

@@ -1,5 +1,5 @@
 -- What the parts of a step say of its answer.
-use Rattle.std.proofs.Common.{◌≡◌, refl, ℕ, zero, suc, ◌+◌, ◌-◌, ◌*◌, ◌^◌, ◌≤◌, ◌<◌, List, [], length, map, take, sym, ap, ◌∙◌, subst, arith, Some, true}
+use Rattle.std.proofs.Common.{◌≡◌, refl, ℕ, zero, suc, ◌+◌, ◌-◌, ◌*◌, ◌^◌, ◌≤◌, List, [], length, map, take, sym, ap, ◌∙◌, subst, arith, Some, true}
 use Rattle.std.specs.Prelude.{Result, Ok, Err, IsErrAnd, slice_get}
 use Rattle.std.proofs.Math.Nat.{mul-le-mul_left, mul-le-mul_right, le-mul_of_pos_right, mul_comm, mul_assoc}
 use Rattle.qtl_truth.specs.declared.event.Event.{Event}
@@ -12,7 +12,7 @@ use Rattle.bdd_ops.specs.Shelf.{Shelf, handle_pairs, IsLarge}
 use Rattle.subformulas.specs.OperationRows.{rows_of}
 use Rattle.std.specs.List.{sum_by}
 use Rattle.monitor_step.specs.Answers.{AnswersEvent, memory_in}
-use Rattle.monitor_step.specs.Ends.{sources, IsFirstFull}
+use Rattle.monitor_step.specs.Ends.{sources}
 use Rattle.monitor_step.specs.Monitor.{State, IsSound, MonitorStands, StepAnswers, variables_of, remembered_of, step_bound}
 use Rattle.monitor_step.specs.Remembers.{Remembers}
 use Rattle.monitor_step.specs.Serving.{IsServeEnd, pairs_at}

@@ -40,6 +40,18 @@ rows_same width cube kind.Always f g f' g' m one two = rw (one (omega arith)) re
 rows_same width cube kind.Interval f g f' g' m one two = rw (one (omega arith), two (omega arith)) refl
 rows_same width cube _ f g f' g' m one two = refl
 
+-- a kind's rows and their result look at the remembered tree of a temporal kind alone
+pub memory_same : (width : ℕ) (cube : AtomOf → Tree) (k : Kind) (f g m m' : Tree) → (IsTrue (is_temporal k) → m ≡ m') → rows_of_kind width cube k f g m ≡ rows_of_kind width cube k f g m'
+memory_same width cube kind.Since f g m m' e = ap (rows_of_kind width cube kind.Since f g) (e refl)
+memory_same width cube kind.Once f g m m' e = ap (rows_of_kind width cube kind.Once f g) (e refl)
+memory_same width cube kind.Always f g m m' e = ap (rows_of_kind width cube kind.Always f g) (e refl)
+memory_same width cube kind.Interval f g m m' e = ap (rows_of_kind width cube kind.Interval f g) (e refl)
+memory_same width cube _ f g m m' e = refl
+
+pub result_same : (k : Kind) (m m' : Tree) (rows : List Tree) → (IsTrue (is_temporal k) → m ≡ m') → result_of k m rows ≡ result_of k m' rows
+result_same kind.Prev m m' rows e = e refl
+result_same _ m m' rows e = refl
+
 module _ (width : ℕ) (cube : AtomOf → Tree) (memory : ℕ → Tree) where
   -- the trees that are done stay in front
   done_front : (done : List Tree) (subs : List Sub) → (more : List Tree) × (trees_from width cube memory done subs ≡ done ++ more)

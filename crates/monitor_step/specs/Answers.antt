@@ -1,10 +1,9 @@
 -- What the rows of a subformula, and of an event, leave in the table.
-use Rattle.std.specs.Prelude.{◌≡◌, ℕ, ◌+◌, ◌-◌, ◌≤◌, List, [], ◌++◌, length, map, take, Result, Ok, Err, slice_index_or}
+use Rattle.std.specs.Prelude.{◌≡◌, ℕ, ◌+◌, ◌-◌, List, ◌++◌, length, map, take, Result, Ok, Err, slice_index_or}
 use Rattle.std.specs.List.{count_by}
 use Rattle.node_tree.specs.Tree.{Tree, Zero}
-use Rattle.node_table.specs.Table.{Table, tree_of, IsShared}
+use Rattle.node_table.specs.Table.{Table, tree_of}
 use Rattle.node_table.specs.Collects.{AllValid}
-use Rattle.value_codes.specs.Pairs.{Pairs, Contents}
 use Rattle.operation_rows.specs.Fitting.{MakesRows}
 use Rattle.subformulas.specs.declared.table.Sub.{Sub}
 use Rattle.subformulas.specs.Memory.{is_temporal}

@@ -1,6 +1,5 @@
 -- At which variable, or at which row of which subformula, an event can't be judged.
 use Rattle.std.specs.Prelude.{◌≡◌, ℕ, ◌+◌, ◌-◌, ◌^◌, ◌<◌, ◌≤◌, ◌⊎◌, List, [], ◌∷◌, ◌++◌, take, length, if◌then◌else◌, Option, Some, None, slice_get, slice_index_or}
-use Rattle.std.specs.List.{count_by}
 use Rattle.qtl_syntax.specs.Tree.{Text}
 use Rattle.qtl_truth.specs.declared.event.Event.{Event}
 use Rattle.qtl_truth.specs.declared.numbered_atom.Atom.{Atom}

@@ -1,5 +1,5 @@
 -- What the functions of src/laws.rt show.
-use Rattle.std.specs.Prelude.{◌≡◌, ℕ, ◌+◌, ◌-◌, ◌^◌, ◌<◌, ◌≤◌, ◌↔◌, List, [], Bool, IsTrue, Some, slice_get, length}
+use Rattle.std.specs.Prelude.{◌≡◌, ℕ, ◌+◌, ◌-◌, ◌^◌, ◌<◌, ◌≤◌, ◌↔◌, List, [], Bool, IsTrue, Option, Some, slice_get, length}
 use Rattle.qtl_syntax.specs.Tree.{Text}
 use Rattle.qtl_truth.specs.declared.event.Event.{Event}
 use Rattle.subformulas.specs.declared.table.Sub.{Sub}
@@ -16,6 +16,7 @@ use Rattle.monitor_step.specs.Books.{SameCodes, IsBook, IsNextBook}
 use Rattle.monitor_step.specs.Operations.{IsSomeOfBlock, IsEachOfBlock}
 use Rattle.monitor_step.specs.Blocks.{AreRows, code_literals}
 use Rattle.monitor_step.specs.Drawn.{Draws, spelled, readings}
+use Rattle.monitor_step.specs.Ends.{End, IsEnd}
 use Rattle.monitor_step.specs.Stands.{StandsFor, IsPlan, AreTexts, Stepped, ToldByTrees, IsPoint, first_memory}
 
 -- a new monitor stands for the first 0 events of each log
@@ -57,6 +58,12 @@ CodesExact =
 
 abbrev pub OneBook : Type 0
 OneBook = (bits : ℕ) (subs : List Sub) (log : List Event) (x i : ℕ) (a b : Pairs) → IsBook bits subs log x i a → IsBook bits subs log x i b → a ≡ b
+
+-- at most one thing comes at an event: whichever books and remembered trees stand for the definition
+abbrev pub OneEnd : Type 0
+OneEnd =
+    (bits N variables : ℕ) (subs : List Sub) (log : List Event) (i : ℕ) (e : Event) (a b : Option End) →
+    IsPlan variables subs → slice_get log i ≡ Some e → IsEnd bits N variables subs log i e a → IsEnd bits N variables subs log i e b → a ≡ b
 
 -- rows over the bits of a block, the last one first, quantify over the block
 abbrev pub RowsQuantify : Type 0

@@ -1,5 +1,5 @@
 -- What a monitor holds, when it stands for a log, and what an event does to it.
-use Rattle.std.specs.Prelude.{◌≡◌, ◌≢◌, ℕ, ◌+◌, ◌-◌, ◌*◌, ◌^◌, ◌<◌, ◌≤◌, ◌↔◌, List, [], map, take, drop, length, Bool, true, false, IsTrue, Result, Ok, Err, Some, None, slice_get, slice_index_or}
+use Rattle.std.specs.Prelude.{◌≡◌, ◌≢◌, ℕ, ◌+◌, ◌-◌, ◌*◌, ◌^◌, ◌<◌, ◌≤◌, ◌↔◌, List, map, take, drop, length, Bool, true, false, IsTrue, Result, Ok, Err, Some, None, slice_index_or}
 use Rattle.std.specs.List.{AllByRecursion, list_any, sum_by}
 use Rattle.qtl_syntax.specs.Tree.{Text}
 use Rattle.qtl_truth.specs.declared.event.Event.{Event}
@@ -8,7 +8,7 @@ use Rattle.node_tree.specs.Tree.{Tree, Zero, value}
 use Rattle.node_table.specs.Table.{tree_of}
 use Rattle.node_table.specs.Collects.{AllValid}
 use Rattle.bdd_ops.specs.Shelf.{Shelf}
-use Rattle.value_codes.specs.Pairs.{Pairs, Contents, code_of, IsBook}
+use Rattle.value_codes.specs.Pairs.{Pairs, Contents, code_of}
 use Rattle.subformulas.specs.Assigned.{Texts, Truth}
 use Rattle.subformulas.specs.Memory.{Has, IsTemporal, memo_at}
 use Rattle.subformulas.specs.NeedList.{HasFewVariables}
@@ -21,7 +21,7 @@ use Rattle.monitor_step.specs.Answers.{temporal_count, memory_in}
 use Rattle.monitor_step.specs.Books.{SameCodes}
 use Rattle.monitor_step.specs.Ends.{IsEnd, CodesFull, NodesFull}
 use Rattle.monitor_step.specs.Serving.{pairs_at}
-use Rattle.monitor_step.specs.Stands.{StandsFor, AreTexts, IsPoint}
+use Rattle.monitor_step.specs.Stands.{StandsFor, IsPoint}
 use Rattle.monitor_step.specs.declared.monitor.StepEnd.{StepEnd}
 use Rattle.monitor_step.specs.declared.monitor.StepEnd.TheVariants as step_end
 

@@ -1,5 +1,5 @@
 -- The trees that the operation rows of a subformula make, by plain recursions on trees.
-use Rattle.std.specs.Prelude.{ℕ, zero, suc, ◌+◌, ◌-◌, ◌*◌, List, [], ◌∷◌, ◌++◌, length, Bool, true, false, not, Option, Some, None, if◌then◌else◌, unwrap_or, slice_index_or}
+use Rattle.std.specs.Prelude.{ℕ, zero, suc, ◌+◌, ◌-◌, ◌*◌, List, [], ◌∷◌, ◌++◌, length, true, false, not, Option, Some, None, if◌then◌else◌, unwrap_or, slice_index_or}
 use Rattle.std.specs.List.{last_or}
 use Rattle.std.specs.Option.{option_and_then}
 use Rattle.qtl_truth.specs.declared.event.Event.{Event}

@@ -3,17 +3,18 @@
 
 mod atom_row;
 mod codes;
+mod event_rows;
+pub mod laws;
+mod monitor;
+mod subformula_rows;
+
+pub use monitor::{Monitor, Sizes, StepEnd};
+
 #[cfg(test)]
 mod codes_tests;
 #[cfg(test)]
 mod compared_tests;
-mod event_rows;
-pub mod laws;
-mod monitor;
 #[cfg(test)]
 mod slow_truth;
-mod subformula_rows;
 #[cfg(test)]
 mod tests;
-
-pub use monitor::{Monitor, Sizes, StepEnd};

@@ -1,10 +1,8 @@
-use Rattle.std.proofs.Common.{◌≡◌, ℕ, ◌+◌, ◌-◌, ◌∙◌, ◌∷◌, ◌++◌, [], List, length, map, take, sym, ap, subst, arith}
+use Rattle.std.proofs.Common.{◌≡◌, ℕ, ◌+◌, ◌-◌, ◌∙◌, ◌∷◌, ◌++◌, [], length, take, sym, ap, arith}
 use Rattle.std.proofs.lemmas.List.{map-append}
 use Rattle.std.proofs.Math.Seq.{take-length}
 use Rattle.node_table.specs.Table.{tree_of}
-use Rattle.node_table.specs.Collects.{AllValid}
 use Rattle.monitor_step.specs.Remembers.{first_memories}
-use Rattle.monitor_step.specs.Stands.{first_memory}
 use Rattle.monitor_step.proofs.Remembering.{valid_end, first_yes, first_no}
 use Rattle.monitor_step.proofs.monitor.first_remembered.Goals as goal
 use Rattle.monitor_step.proofs.monitor.first_remembered.Goals.{then-is_temporal+in_ok-push, else-is_temporal}

@@ -1,11 +1,10 @@
-use Rattle.std.proofs.Common.{◌≡◌, ℕ, ◌+◌, ◌-◌, ◌<◌, ◌∙◌, length, take, drop, sym, ap, subst, arith, Some}
-use Rattle.std.specs.Prelude.{slice_get, slice_index_or}
+use Rattle.std.proofs.Common.{◌≡◌, ℕ, ◌+◌, ◌-◌, ◌<◌, ◌∙◌, length, drop, sym, ap, subst, arith}
+use Rattle.std.specs.Prelude.{slice_index_or}
 use Rattle.std.proofs.lemmas.List.{get_or_read, length-set, drop-set-lt}
 use Rattle.std.proofs.lemmas.Option.{slice_get_within}
 use Rattle.node_table.specs.Table.{IsValid}
 use Rattle.monitor_step.specs.Remembers.{source_of}
 use Rattle.monitor_step.proofs.EventRows.{temporal_yes, temporal_no, temporal_place}
-use Rattle.subformulas.specs.declared.table.Sub.{Sub}
 use Rattle.monitor_step.proofs.Remembering.{source_within, remembered_yes, remembered_no, behind_same, valid_set}
 use Rattle.monitor_step.proofs.monitor.remember.Goals as goal
 use Rattle.monitor_step.proofs.monitor.remember.Goals.{then-is_temporal, else-is_temporal}

@@ -1,8 +1,6 @@
-use Rattle.std.proofs.Common.{◌≡◌, ◌*◌, ◌≤◌, ℕ, length, List, map, sym, subst, arith}
+use Rattle.std.proofs.Common.{◌≤◌, length, List, map, sym, subst, arith}
 use Rattle.qtl_syntax.specs.Tree.{Text}
 use Rattle.node_table.specs.Table.{Table, tree_of}
-use Rattle.subformulas.specs.NeedList.{texts_for}
-use Rattle.subformulas.specs.Needs.{need}
 use Rattle.subformulas.specs.declared.need_list.Need.{Need}
 use Rattle.monitor_step.specs.Serving.{AllApart, AreServed, IsServeEnd}
 use Rattle.monitor_step.specs.Steps.{AreNeeds}
@@ -44,6 +42,8 @@ returns-in_err-serve_all-clause-served c c' =
 pub returns-clause-served : goal.returns-clause-served
 returns-clause-served c c' =
     let e = c'.args.event.now in
-    let texts = subst (λ (ns : List Need). AreNeeds c'.args.plan.now.subs e ns) (sym c'.entries.ensures) c'.in_ok-needs.ensures.texts in
-    (c'.entries.result.now, texts,
-    subst (λ (t : Table). AreServed (map (tree_of t) c'.args.remembered.now) c'.args.bits e.args c'.entries.result.now (length c'.args.books.now) c'.args.books.now c'.serve_all.new.books) c'.table_mut.ensures.value c'.in_ok-serve_all.ensures.served)
+    let texts = subst (λ (ns : List Need). AreNeeds c'.args.plan.now.subs e ns) (sym c'.entries.ensures) c'.in_ok-needs.ensures.texts in (
+      c'.entries.result.now,
+      texts,
+      subst (λ (t : Table). AreServed (map (tree_of t) c'.args.remembered.now) c'.args.bits e.args c'.entries.result.now (length c'.args.books.now) c'.args.books.now c'.serve_all.new.books) c'.table_mut.ensures.value c'.in_ok-serve_all.ensures.served,
+    )

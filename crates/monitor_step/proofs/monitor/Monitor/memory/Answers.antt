@@ -1,9 +1,8 @@
-use Rattle.std.proofs.Common.{◌≡◌, ℕ, ◌-◌, ◌<◌, ◌∙◌, length, take, true, sym, ap, subst}
+use Rattle.std.proofs.Common.{◌≡◌, ℕ, ◌<◌, ◌∙◌, length, true, sym, ap, subst}
 use Rattle.std.specs.Prelude.{slice_index_or}
 use Rattle.std.proofs.lemmas.List.{get_or_read}
 use Rattle.node_table.specs.Table.{tree_of, IsValid}
 use Rattle.subformulas.specs.Memory.{IsTemporal}
-use Rattle.monitor_step.specs.Answers.{temporal_count}
 use Rattle.monitor_step.specs.Monitor.{State, memory_of}
 use Rattle.monitor_step.proofs.Remembering.{memory_place, memory_tree}
 use Rattle.monitor_step.proofs.monitor.Monitor.memory.Goals as goal

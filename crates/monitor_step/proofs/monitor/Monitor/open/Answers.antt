@@ -1,10 +1,9 @@
-use Rattle.std.proofs.Common.{◌≡◌, ℕ, ◌+◌, ◌*◌, ◌≤◌, List, length, map, take, sym, ap, ◌∙◌, subst, refl, arith, true}
+use Rattle.std.proofs.Common.{◌≡◌, ◌*◌, ◌≤◌, List, length, map, subst, refl, arith, true}
 use Rattle.std.specs.Prelude.{vec_capacity}
 use Rattle.node_table.specs.Table.{Table, tree_of}
 use Rattle.node_table.specs.Collects.{AllValid}
 use Rattle.wellformed.specs.declared.core_formula.Variable.{Variable}
 use Rattle.subformulas.specs.Table as plan_table
-use Rattle.bdd_ops.specs.Shelf.{Shelf}
 use Rattle.monitor_step.specs.Monitor.{State}
 use Rattle.monitor_step.specs.Remembers.{first_memories}
 use Rattle.monitor_step.proofs.Opening.{front, opened_sound, opened_stands}

@@ -1,4 +1,4 @@
-use Rattle.std.proofs.Common.{◌≡◌, ◌∙◌, ℕ, List, length, refl}
+use Rattle.std.proofs.Common.{◌∙◌, refl}
 use Rattle.std.proofs.lemmas.List.{with_items_is}
 use Rattle.monitor_step.proofs.StepParts.{serving_refused, rows_refused, judged, serving_bound, event_bound}
 use Rattle.monitor_step.proofs.monitor.Monitor.step.Goals as goal
