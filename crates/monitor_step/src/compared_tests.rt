@@ -80,48 +80,87 @@ fn slow_truths(alloc: Global, spec: &str, log: &[Event]) -> Result<Vec<bool>, Fa
     }
 }
 
+/// A specification with one property, and how many bits a code has: no fewer than three texts need.
+struct Case {
+    spec: &'static str,
+    bits: u8,
+}
+
 /// The first event, counted from 1, at which the monitor doesn't answer the slow truth.
 fn first_unlike<L: Ledger>(
     alloc: Global,
-    spec: &str,
-    seed: u32,
-    blank: Blank,
-) -> Result<Option<usize>, Fail>
-    requires name { blank.name ≡ L.name }
-    requires parts { blank.parts ≡ L.parts }
-    requires some { 0 < L.parts }
-{
-    let mut steps = Steps::<L>::new(blank);
-    let log = pick_log(alloc, seed)?;
-    let slow = slow_truths(alloc, spec, log.as_slice())?;
-    let plan = make_plan(alloc, core_of(alloc, spec)?)?;
-    let mut monitor = open(alloc, plan, 3, 4096)?;
+    case: &Case,
+    log: &[Event],
+    steps: &mut Steps<L>,
+) -> Result<Option<usize>, Fail> {
+    let slow = slow_truths(alloc, case.spec, log)?;
+    let plan = make_plan(alloc, core_of(alloc, case.spec)?)?;
+    let mut monitor = open(alloc, plan, case.bits, 4096)?;
     for (i, event) in log.iter().enumerate() {
         let want = holds(slow.as_slice(), i);
-        if judge(&mut monitor, event, &mut steps)? != Ok(want) {
+        if judge(&mut monitor, event, steps)? != Ok(want) {
             return Ok(Some(i + 1));
         }
     }
     Ok(None)
 }
 
-const SPECS: &[&str] = &[
-    "prop a : forall x . p(x) -> exists y . [q(x,y),p(y))",
-    "prop b : exists x . (exists y . ! q(x,y) & P p(y)) S p(x)",
-    "prop c : forall x . H (p(x) -> exists y . @ (p(y) | H ! q(y,x)))",
-    "pred led(x,y) = (! p(y)) S q(x,y) prop d : forall x . (P p(x)) -> (exists y . led(x,y)) | led(\"a\",x)",
-    "prop e : exists x . [p(x) | exists y . q(y,x),q(x,\"b\")) & ! @ P q(\"a\",x)",
-    "prop f : forall x . forall y . P (q(x,y) & @ p(x)) -> ((exists x . q(x,y)) S p(y)) <-> ! q(y,x)",
-    "pred seen(x) = exists y . P q(x,y) prop g : exists x . forall y . seen(x) & (p(y) -> H ! q(y,\"c\"))",
+/// The first of the logs with such an event, by the number that it comes of, and that event.
+fn first_unlike_log<L: Ledger>(
+    alloc: Global,
+    case: &Case,
+    blank: Blank,
+) -> Result<Option<(u32, usize)>, Fail>
+    requires name { blank.name ≡ L.name }
+    requires parts { blank.parts ≡ L.parts }
+    requires some { 0 < L.parts }
+{
+    let mut steps = Steps::<L>::new(blank);
+    for seed in 0..100 {
+        let log = pick_log(alloc, seed)?;
+        if let Some(event) = first_unlike(alloc, case, log.as_slice(), &mut steps)? {
+            return Ok(Some((seed, event)));
+        }
+    }
+    Ok(None)
+}
+
+const CASES: &[Case] = &[
+    Case {
+        spec: "prop a : forall x . p(x) -> exists y . [q(x,y),p(y))",
+        bits: 3,
+    },
+    Case {
+        spec: "prop b : exists x . (exists y . ! q(x,y) & P p(y)) S p(x)",
+        bits: 3,
+    },
+    Case {
+        spec: "prop c : forall x . H (p(x) -> exists y . @ (p(y) | H ! q(y,x)))",
+        bits: 2,
+    },
+    Case {
+        spec: "pred led(x,y) = (! p(y)) S q(x,y) prop d : forall x . (P p(x)) -> (exists y . led(x,y)) | led(\"a\",x)",
+        bits: 3,
+    },
+    Case {
+        spec: "prop e : exists x . [p(x) | exists y . q(y,x),q(x,\"b\")) & ! @ P q(\"a\",x)",
+        bits: 3,
+    },
+    Case {
+        spec: "prop f : forall x . forall y . P (q(x,y) & @ p(x)) -> ((exists x . q(x,y)) S p(y)) <-> ! q(y,x)",
+        bits: 2,
+    },
+    Case {
+        spec: "pred seen(x) = exists y . P q(x,y) prop g : exists x . forall y . seen(x) & (p(y) -> H ! q(y,\"c\"))",
+        bits: 3,
+    },
 ];
 
 #[test]
 fn verdicts_are_the_slow_truth(rt: HostRuntime) -> Result<(), Fail> {
-    for spec in SPECS {
-        for seed in 0..100 {
-            let unlike = first_unlike::<Brand>(rt.alloc(), spec, seed, Blank::new(1))?;
-            assert_eq!(rt; unlike, None, "{spec}, log {seed}");
-        }
+    for case in CASES {
+        let unlike = first_unlike_log::<Brand>(rt.alloc(), case, Blank::new(1))?;
+        assert_eq!(rt; unlike, None, "{}", case.spec);
     }
     Ok(())
 }

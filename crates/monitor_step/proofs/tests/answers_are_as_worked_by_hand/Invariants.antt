@@ -1,0 +1,5 @@
+use Rattle.monitor_step.proofs.tests.answers_are_as_worked_by_hand.Given as goal
+
+-- the ledger is that of the blank
+abbrev pub ghosts-answers : goal.ghosts-answers
+ghosts-answers g a = record { name = a.blank.name; parts = a.blank.parts }
