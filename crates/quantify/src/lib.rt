@@ -4,8 +4,10 @@
 
 mod bit;
 mod block;
+mod deepest;
 #[cfg(test)]
 mod tests;
 
 pub use bit::quantify_bit;
 pub use block::{BlockFull, quantify_block};
+pub use deepest::quantify_deepest;
