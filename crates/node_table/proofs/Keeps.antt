@@ -26,7 +26,7 @@ valid_inside room slots marks round hs v j l = subst (λ f. is_valid f (slice_in
 module _ (room : ℕ) (slots : List Slot) (heads marks : List ℕ) (first round live : ℕ) (k : IsKept room slots heads marks first round live)
     (new : List Slot) (newer marked : List ℕ) (free after : ℕ) (roots more : List ℕ) (trees : MarksTrees (node_in slots) marked after roots more)
     (left : (h : ℕ) → node_in new h ≡ swept_from (node_in slots) marked after 2 h) (chained : IsChained (node_in new) (chain_in new) newer (length new)) (frees : IsFree (node_in new) (chain_in new) free (length new))
-    (long : length new ≡ length slots) (size : length newer ≡ length heads) (places : length marked ≡ length marks) where
+    (long : length new ≡ length slots) (some : 0 < length newer) (places : length marked ≡ length marks) where
   two_on : (h : ℕ) (s : Node) → node_in slots h ≡ Some s → 2 ≤ h
   two_on zero s e = let z = k.linked.well.no_zero in cc
   two_on (suc zero) s e = let z = k.linked.well.no_one in cc
@@ -86,7 +86,7 @@ module _ (room : ℕ) (slots : List Slot) (heads marks : List ℕ) (first round 
       leaves = omega (arith, k.linked.leaves, long);
       few = omega (arith, k.linked.few, long);
       well = subst IsWell see_new left_table.well;
-      buckets = omega (arith, k.linked.buckets, size);
+      buckets = some;
       chained = chained;
       free = frees;
     };

@@ -13,3 +13,4 @@ pub mod Sweeping
 pub mod Relinking
 pub mod Collecting
 pub mod Keeps
+pub mod Widening

@@ -118,15 +118,43 @@ pub fn open_slots(alloc: Global, nodes: u32) -> Result<(Vec<Slot>, Vec<u32>), No
     Ok((slots, marks))
 }
 
-/// The heads of empty buckets, a power of two of them and no fewer than the nodes.
+/// How many buckets a table has that holds few nodes.
+const FEW: usize = 16_384;
+
+/// How many buckets so many nodes want, but at most so many: a power of two, where that is one.
+pub fn buckets_for(nodes: u32, most: usize) -> usize
+    requires { 0 < most }
+    ensures some { 0 < result }
+    ensures most { result ≤ most }
+{
+    let mut buckets = FEW;
+    while buckets < 4 * nodes as usize {
+        buckets *= 2;
+    }
+    buckets.min(most)
+}
+
+/// Empty buckets, so many of them, within the room that was taken.
+pub fn set_up(heads: &mut Vec<u32>, buckets: usize)
+    requires room { buckets ≤ vec_capacity heads.old }
+    ensures empty { heads.new.items ≡ replicate buckets 0 }
+    ensures room { vec_capacity heads.old ≤ vec_capacity heads.new }
+{
+    heads.clear();
+    heads.resize(buckets, 0).unwrap();
+}
+
+/// The heads of empty buckets, with room for a power of two of them that is no less than the nodes.
 pub fn open_heads(alloc: Global, nodes: u32) -> Result<Vec<u32>, NoMemory>
     requires some { 0 < nodes }
     requires bound { nodes ≤ 4194304 }
     ensures empty { IfOk result (λ v. v.items ≡ replicate (length v.items) 0) }
-    ensures enough { IfOk result (λ v. nodes ≤ length v.items) }
+    ensures some { IfOk result (λ v. 0 < length v.items) }
 {
-    let buckets = nodes.next_power_of_two();
-    vec![in alloc; 0u32; buckets as usize]
+    let room = nodes.next_power_of_two() as usize;
+    let mut heads = Vec::with_capacity(alloc, room)?;
+    set_up(&mut heads, room.min(FEW));
+    Ok(heads)
 }
 
 /// Puts a node into a new slot behind the others, unmarked, and the slot into its bucket.

@@ -131,17 +131,8 @@ fn sweep(slots: &mut [Slot], marks: &[u32], round: u32) -> u32
     free
 }
 
-/// Empties all buckets.
-fn clear(heads: &mut [u32])
-    ensures { (b : ℕ) → head_in heads.new b ≡ 0 }
-{
-    for head in heads.iter_mut() {
-        *head = 0;
-    }
-}
-
 /// Puts each node into its bucket again, the buckets being empty.
-fn relink(slots: &mut [Slot], heads: &mut [u32])
+pub fn relink(slots: &mut [Slot], heads: &mut [u32])
     requires empty { (b : ℕ) → head_in heads.old b ≡ 0 }
     requires leaves { 2 ≤ length slots.old }
     requires buckets { 0 < length heads.old }
@@ -162,7 +153,7 @@ fn relink(slots: &mut [Slot], heads: &mut [u32])
     }
 }
 
-/// Frees the slots without a mark, and puts the other nodes into their buckets anew.
+/// Frees the slots without a mark, and puts the other nodes into buckets that are empty.
 pub fn rebuild(slots: &mut [Slot], heads: &mut [u32], marks: &[u32], round: u32) -> u32
     requires started { 0 < round }
     requires leaves { 2 ≤ length slots.old }
@@ -171,13 +162,13 @@ pub fn rebuild(slots: &mut [Slot], heads: &mut [u32], marks: &[u32], round: u32)
     requires nodes { MarksNodes (node_in slots.old) marks.now round }
     requires no_zero { node_in slots.old 0 ≡ None }
     requires no_one { node_in slots.old 1 ≡ None }
+    requires empty { (b : ℕ) → head_in heads.old b ≡ 0 }
     requires buckets { 0 < length heads.old }
     ensures left { (h : ℕ) → node_in slots.new h ≡ swept_from (node_in slots.old) marks.now round 2 h }
     ensures free { IsFree (node_in slots.new) (chain_in slots.new) result (length slots.new) }
     ensures chained { IsChained (node_in slots.new) (chain_in slots.new) heads.new (length slots.new) }
 {
     let free = sweep(slots, marks, round);
-    clear(heads);
     relink(slots, heads);
     free
 }

@@ -6,8 +6,8 @@ ghost use Rattle.node_table.specs.Table.{Table, tree_of, IsValid, is_marked, hel
 ghost use Rattle.node_table.specs.Tells.{TellsTree};
 ghost use Rattle.node_table.specs.Collects.{AllValid, Collects};
 
-use crate::arrays::{Slot, bucket_of, find, hold, open_heads, open_slots};
-use crate::collect::{mark_trees, rebuild};
+use crate::arrays::{Slot, bucket_of, buckets_for, find, hold, open_heads, open_slots, set_up};
+use crate::collect::{mark_trees, rebuild, relink};
 use crate::handle::{Branch, Handle};
 use crate::marks::new_round;
 use crate::node::Node;
@@ -27,7 +27,7 @@ pub struct NodeTable {
     room: u32,
     /// By number; the first two stand for the leaves.
     slots: Vec<Slot>,
-    /// By bucket, the greatest number in it.
+    /// By bucket, the greatest number in it. There are few where few nodes are held, since a small table is a fast one.
     heads: Vec<u32>,
     /// By number, the round in which it was last marked.
     marks: Vec<u32>,
@@ -132,9 +132,20 @@ impl NodeTable {
         }
     }
 
-    /// The one handle of the tree that joins two trees at a level above theirs. Where it isn't held and no slot is
-    /// free, the table stays as it is.
-    pub fn make(&mut self, level: u16, low: Handle, high: Handle) -> Result<Handle, Full>
+    /// Doubles the buckets where they are fewer than the nodes, and puts each node into its own anew.
+    fn widen_when_full(&mut self)
+        ensures { self.new ≡ self.old }
+    {
+        let buckets = self.heads.len();
+        if self.live as usize <= buckets || buckets > self.heads.capacity() / 2 {
+            return;
+        }
+        set_up(&mut self.heads, buckets * 2);
+        relink(&mut self.slots, &mut self.heads);
+    }
+
+    /// `make` with the buckets that there are.
+    fn make_within(&mut self, level: u16, low: Handle, high: Handle) -> Result<Handle, Full>
         requires low { IsValid self.old low }
         requires high { IsValid self.old high }
         requires below_low { level < top (tree_of self.old low) }
@@ -176,6 +187,26 @@ impl NodeTable {
         Ok(Handle { number })
     }
 
+    /// The one handle of the tree that joins two trees at a level above theirs. Where it isn't held and no slot is
+    /// free, the table stays as it is.
+    pub fn make(&mut self, level: u16, low: Handle, high: Handle) -> Result<Handle, Full>
+        requires low { IsValid self.old low }
+        requires high { IsValid self.old high }
+        requires below_low { level < top (tree_of self.old low) }
+        requires below_high { level < top (tree_of self.old high) }
+        ensures valid { IfOk result (λ h. IsValid self.new h) }
+        ensures tree { IfOk result (λ h. tree_of self.new h ≡ join level (tree_of self.old low) (tree_of self.old high)) }
+        ensures kept { KeepsTrees self.old self.new }
+        ensures held { OnOk result (HoldsAlso self.old self.new (join level (tree_of self.old low) (tree_of self.old high))) }
+        ensures live { OnOk result (live_of self.new ≡ need self.old (join level (tree_of self.old low) (tree_of self.old high))) }
+        ensures full { IsErr result ↔ (self.old.room < need self.old (join level (tree_of self.old low) (tree_of self.old high))) }
+        ensures err { OnErr result (self.new ≡ self.old) }
+        ensures shared { IsShared self.new }
+    {
+        self.widen_when_full();
+        self.make_within(level, low, high)
+    }
+
     /// Keeps the nodes of the trees of both lists, and frees all other slots.
     pub fn collect(&mut self, roots: &[Handle], more: &[Handle])
         requires roots { AllValid self.old roots.now }
@@ -192,6 +223,8 @@ impl NodeTable {
             roots,
             more,
         );
+        let buckets = buckets_for(live, self.heads.capacity());
+        set_up(&mut self.heads, buckets);
         let free = rebuild(&mut self.slots, &mut self.heads, &self.marks, round);
         self.round = round;
         self.live = live;

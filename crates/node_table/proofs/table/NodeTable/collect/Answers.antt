@@ -1,4 +1,5 @@
-use Rattle.std.proofs.Common.{◌≡◌, ◌<◌, ◌∙◌, ℕ, List, length, drop, take, ◌++◌, subst, arith, sym}
+use Rattle.std.proofs.Common.{◌≡◌, ◌<◌, ◌∙◌, ℕ, List, length, drop, take, ◌++◌, ap, subst, arith, sym}
+use Rattle.std.proofs.lemmas.List.{length-replicate}
 use Rattle.std.specs.Prelude.{true}
 use Rattle.node_table.specs.declared.arrays.Slot.{Slot}
 use Rattle.node_table.specs.Unfold.{is_valid}
@@ -32,6 +33,12 @@ rebuild-free-requires-clause-nodes c =
     subst (λ (m : List ℕ). MarksNodes (node_in c.deref_mut-3.result.now) m round) (sym same)
     (subst (λ (s : List Slot). MarksNodes (node_in s) marks round) slots c.mark_trees-live.ensures.trees.nodes)
 
+-- the buckets are as many as were set up
+buckets_there : (c : goal.After-self-7-1) → length c.rebuild-free.new.heads ≡ c.buckets_for-buckets.result
+buckets_there c =
+    let e : length c.set_up.new.heads.items ≡ c.buckets_for-buckets.result = ap (λ (hs : List ℕ). length hs) c.set_up.ensures.empty ∙ length-replicate c.buckets_for-buckets.result 0 in
+    omega (arith, e)
+
 -- the arrays after the collection
 left : (c : goal.After-self-7-1) →
     let new : Table = table_of c.self.inside.room c.rebuild-free.new.slots c.mark_trees-live.new.marks c.new_round-round.result in
@@ -47,36 +54,36 @@ left c =
     let swept = subst (λ (m : List ℕ). (h : ℕ) → node_in c.rebuild-free.new.slots h ≡ swept_from (node_in slots) m round 2 h) same
     (subst (λ (s : List Slot). (h : ℕ) → node_in c.rebuild-free.new.slots h ≡ swept_from (node_in s) c.deref-2.result.now round 2 h) c.deref_mut-3.ensures.value c.rebuild-free.ensures.left) in
     let as_long : length c.rebuild-free.new.slots ≡ length slots = omega arith in
-    let as_many : length c.rebuild-free.new.heads ≡ length c.self.inside.heads.items = omega arith in
+    let some : 0 < length c.rebuild-free.new.heads = omega (arith, c.buckets_for-buckets.ensures.some, buckets_there c) in
     let places : length marks ≡ length c.self.inside.marks.items = omega arith in
     let roots = subst (λ t. AllValid t c.args.roots.now) (sym c.self.view_is) c.requires.roots in
     let more = subst (λ t. AllValid t c.args.more.now) (sym c.self.view_is) c.requires.more in (
       left_kept c.self.inside.room slots c.self.inside.heads.items c.self.inside.marks.items c.self.inside.free c.self.inside.round c.self.inside.live kept
-          c.rebuild-free.new.slots c.rebuild-free.new.heads marks c.rebuild-free.result round c.args.roots.now c.args.more.now trees swept c.rebuild-free.ensures.chained c.rebuild-free.ensures.free as_long as_many places
+          c.rebuild-free.new.slots c.rebuild-free.new.heads marks c.rebuild-free.result round c.args.roots.now c.args.more.now trees swept c.rebuild-free.ensures.chained c.rebuild-free.ensures.free as_long some places
           c.mark_trees-live.ensures.rounds c.new_round-round.ensures.started c.mark_trees-live.result c.mark_trees-live.ensures.count,
       shared (table_of c.self.inside.room c.rebuild-free.new.slots marks round) (left_table c.self.inside.room slots c.self.inside.heads.items c.self.inside.marks.items c.self.inside.free c.self.inside.round c.self.inside.live kept
-          c.rebuild-free.new.slots c.rebuild-free.new.heads marks c.rebuild-free.result round c.args.roots.now c.args.more.now trees swept c.rebuild-free.ensures.chained c.rebuild-free.ensures.free as_long as_many places),
+          c.rebuild-free.new.slots c.rebuild-free.new.heads marks c.rebuild-free.result round c.args.roots.now c.args.more.now trees swept c.rebuild-free.ensures.chained c.rebuild-free.ensures.free as_long some places),
       left_collected c.self.inside.room slots c.self.inside.heads.items c.self.inside.marks.items c.self.inside.free c.self.inside.round c.self.inside.live kept
-          c.rebuild-free.new.slots c.rebuild-free.new.heads marks c.rebuild-free.result round c.args.roots.now c.args.more.now trees swept c.rebuild-free.ensures.chained c.rebuild-free.ensures.free as_long as_many places roots more,
+          c.rebuild-free.new.slots c.rebuild-free.new.heads marks c.rebuild-free.result round c.args.roots.now c.args.more.now trees swept c.rebuild-free.ensures.chained c.rebuild-free.ensures.free as_long some places roots more,
     )
 
 -- what came back from the slices
 slots_back : (c : goal.After-self-7-1) → take c.self.inside.slots.len (c.rebuild-free.new.slots ++ drop (length c.rebuild-free.new.slots) c.self.inside.slots.items) ≡ c.rebuild-free.new.slots
 slots_back c = let long : c.self.inside.slots.len ≡ length c.rebuild-free.new.slots = omega arith in came_back c.self.inside.slots.len c.rebuild-free.new.slots _ long
 
-heads_back : (c : goal.After-self-7-1) → take c.self.inside.heads.len (c.rebuild-free.new.heads ++ drop (length c.rebuild-free.new.heads) c.self.inside.heads.items) ≡ c.rebuild-free.new.heads
-heads_back c = let long : c.self.inside.heads.len ≡ length c.rebuild-free.new.heads = omega arith in came_back c.self.inside.heads.len c.rebuild-free.new.heads _ long
+heads_back : (c : goal.After-self-7-1) → take c.set_up.new.heads.len (c.rebuild-free.new.heads ++ drop (length c.rebuild-free.new.heads) c.set_up.new.heads.items) ≡ c.rebuild-free.new.heads
+heads_back c = let long : c.set_up.new.heads.len ≡ length c.rebuild-free.new.heads = omega arith in came_back c.set_up.new.heads.len c.rebuild-free.new.heads _ long
 
 marks_back : (c : goal.After-self-7-1) (rest : List ℕ) → take c.self.inside.marks.len (c.mark_trees-live.new.marks ++ rest) ≡ c.mark_trees-live.new.marks
 marks_back c rest = let long : c.self.inside.marks.len ≡ length c.mark_trees-live.new.marks = omega arith in came_back c.self.inside.marks.len c.mark_trees-live.new.marks rest long
 
 -- what holds of the three lists holds of them as they came back
 all_back : (P : List Slot → List ℕ → List ℕ → Type 0) (c : goal.After-self-7-1) → P c.rebuild-free.new.slots c.rebuild-free.new.heads c.mark_trees-live.new.marks →
-    P (take c.self.inside.slots.len (c.rebuild-free.new.slots ++ drop (length c.rebuild-free.new.slots) c.self.inside.slots.items)) (take c.self.inside.heads.len (c.rebuild-free.new.heads ++ drop (length c.rebuild-free.new.heads) c.self.inside.heads.items))
+    P (take c.self.inside.slots.len (c.rebuild-free.new.slots ++ drop (length c.rebuild-free.new.slots) c.self.inside.slots.items)) (take c.set_up.new.heads.len (c.rebuild-free.new.heads ++ drop (length c.rebuild-free.new.heads) c.set_up.new.heads.items))
     (take c.self.inside.marks.len (c.mark_trees-live.new.marks ++ drop (length c.mark_trees-live.new.marks) (take c.self.inside.marks.len (c.new_round-round.new.marks ++ drop (length c.new_round-round.new.marks) c.self.inside.marks.items))))
 all_back P c p =
     let slots = take c.self.inside.slots.len (c.rebuild-free.new.slots ++ drop (length c.rebuild-free.new.slots) c.self.inside.slots.items) in
-    let heads = take c.self.inside.heads.len (c.rebuild-free.new.heads ++ drop (length c.rebuild-free.new.heads) c.self.inside.heads.items) in
+    let heads = take c.set_up.new.heads.len (c.rebuild-free.new.heads ++ drop (length c.rebuild-free.new.heads) c.set_up.new.heads.items) in
     let rest = drop (length c.mark_trees-live.new.marks) (take c.self.inside.marks.len (c.new_round-round.new.marks ++ drop (length c.new_round-round.new.marks) c.self.inside.marks.items)) in
     subst (λ (m : List ℕ). P slots heads m) (sym (marks_back c rest))
     (subst (λ (h : List ℕ). P slots h c.mark_trees-live.new.marks) (sym (heads_back c))

@@ -10,7 +10,7 @@ use Rattle.node_table.proofs.Keeping.{came_back}
 use Rattle.node_table.proofs.Sharing.{shared}
 use Rattle.node_table.proofs.Making.{MakesNode, makes_same, makes_found, is_full}
 use Rattle.node_table.proofs.Standing.{is_table, child, makes_held_node, counted, counted_more, seen, forth, back}
-use Rattle.node_table.proofs.table.NodeTable.make.Goals as goal
+use Rattle.node_table.proofs.table.NodeTable.make_within.Goals as goal
 
 same : (c : goal.Then-low-high) → MakesNode c.args.self.now c.args.self.now (join c.args.level (tree_of c.args.self.now c.args.low) (tree_of c.args.self.now c.args.high)) c.args.low
 same c =
