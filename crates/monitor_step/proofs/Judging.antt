@@ -1,5 +1,5 @@
 -- The verdict of a property is whether its handle is that of the leaf that is true.
-use Rattle.std.proofs.Common.{◌≡◌, ◌≢◌, ℕ, ◌≤◌, ◌⊎◌, ◌↔◌, inl, inr, refl, sym, ap, ◌∙◌, subst, arith, List, [], length, true, false, Option, Some, None, IsTrue, eqb}
+use Rattle.std.proofs.Common.{◌≡◌, ◌≢◌, ℕ, ◌≤◌, ◌⊎◌, ◌↔◌, inl, inr, refl, sym, ap, ◌∙◌, subst, arith, List, [], length, Bool, true, false, Option, Some, None, IsTrue, eqb}
 use Rattle.std.specs.Prelude.{slice_get}
 use Rattle.std.specs.Option.{option_map}
 use Rattle.std.proofs.lemmas.Bool.Decides.{eqb_tells}
@@ -15,9 +15,9 @@ use Rattle.subformulas.proofs.Below.{each_atom_below}
 use Rattle.subformulas.proofs.ByNumber.{all_at}
 use Rattle.subformulas.proofs.Closed.{IsClosed, closed_is}
 use Rattle.subformulas.proofs.FromLists.{in_list, truth_read}
-use Rattle.node_tree.specs.Tree.{Zero, One}
+use Rattle.node_tree.specs.Tree.{Tree, Zero, One, Branch}
 use Rattle.node_table.specs.Table.{tree_of, IsValid, IsShared}
-use Rattle.monitor_step.specs.Monitor.{State, IsSound, MonitorStands, variables_of, now_of}
+use Rattle.monitor_step.specs.Monitor.{State, IsSound, MonitorStands, variables_of, now_of, is_one, verdict_at}
 use Rattle.monitor_step.proofs.Verdict.{verdict}
 
 root_of : (o : Option PlanProp) (root : ℕ) → option_map (λ q. q.root) o ≡ Some root → (q : PlanProp) × (o ≡ Some q) × (q.root ≡ root)
@@ -50,3 +50,25 @@ verdict_is m sound shared p root now one at valid tree one_valid one_tree some l
         by_tree (inl h) (inr t) = absurd (t.1 (shared.one_handle now one valid one_valid (tree ∙ (h.0 ∙ sym one_tree))))
         by_tree (inr h) (inl t) = absurd (let no : Zero ≡ One = sym h.0 ∙ (sym tree ∙ (ap (tree_of m.shelf.table) t.1 ∙ one_tree)) in cc)
         by_tree (inr h) (inr t) = (λ x. absurd (let no : true ≡ false = sym x ∙ t.0 in cc), λ x. absurd (h.1 (reads.0 x)))
+
+-- so it is whether the property's tree is that leaf
+tree_tells : (t : Tree) → t ≢ One → is_one t ≡ false
+tree_tells One other = absurd (other refl)
+tree_tells Zero other = refl
+tree_tells (Branch level low high) other = refl
+
+handle_tells : (m : State) → IsShared m.shelf.table → (root now one : ℕ) → IsValid m.shelf.table now → tree_of m.shelf.table now ≡ now_of m root → IsValid m.shelf.table one →
+    tree_of m.shelf.table one ≡ One → ((eqb now one ≡ true) × (now ≡ one)) ⊎ ((eqb now one ≡ false) × (now ≢ one)) → verdict_at m root ≡ eqb now one
+handle_tells m shared root now one valid tree one_valid one_tree (inl t) = ap is_one (sym tree ∙ (ap (tree_of m.shelf.table) t.1 ∙ one_tree)) ∙ sym t.0
+handle_tells m shared root now one valid tree one_valid one_tree (inr t) =
+    tree_tells (now_of m root) (λ e. t.1 (shared.one_handle now one valid one_valid (tree ∙ (e ∙ sym one_tree)))) ∙ sym t.0
+
+at_root : (m : State) (o : Option PlanProp) (root : ℕ) (v : Bool) → option_map (λ q. q.root) o ≡ Some root → verdict_at m root ≡ v → option_map (λ q. verdict_at m q.root) o ≡ Some v
+at_root m None root v at is = absurd (let none : ⊥ = cc in none)
+at_root m (Some q) root v at is = let same : q.root ≡ root = cc in ap Some (ap (verdict_at m) same ∙ is)
+
+pub verdict_shown : (m : State) → IsShared m.shelf.table → (p root now one : ℕ) → option_map (λ q. q.root) (slice_get m.plan.props p) ≡ Some root →
+    IsValid m.shelf.table now → tree_of m.shelf.table now ≡ now_of m root → IsValid m.shelf.table one → tree_of m.shelf.table one ≡ One →
+    option_map (λ q. verdict_at m q.root) (slice_get m.plan.props p) ≡ Some (eqb now one)
+verdict_shown m shared p root now one at valid tree one_valid one_tree =
+    at_root m (slice_get m.plan.props p) root (eqb now one) at (handle_tells m shared root now one valid tree one_valid one_tree (eqb_tells now one))

@@ -4,7 +4,7 @@ use Rattle.std.specs.List.{AllByRecursion, list_any, sum_by}
 use Rattle.qtl_syntax.specs.Tree.{Text}
 use Rattle.qtl_truth.specs.declared.event.Event.{Event}
 use Rattle.qtl_truth.specs.Truth.{time_at}
-use Rattle.node_tree.specs.Tree.{Tree, Zero, value}
+use Rattle.node_tree.specs.Tree.{Tree, Zero, One, value}
 use Rattle.node_table.specs.Table.{tree_of}
 use Rattle.node_table.specs.Collects.{AllValid}
 use Rattle.bdd_ops.specs.Shelf.{Shelf}
@@ -56,6 +56,15 @@ memory_of m = memory_in m.plan.subs (map (tree_of m.shelf.table) (take (remember
 -- the trees at the last event, by number of subformula
 abbrev pub now_of : State → ℕ → Tree
 now_of m k = slice_index_or (map (tree_of m.shelf.table) (drop (remembered_of m) m.handles)) (k - 1) Zero
+
+-- the tree is the leaf that is true
+abbrev pub is_one : Tree → Bool
+is_one One = true
+is_one _ = false
+
+-- the verdict on the property whose formula has this number: whether its tree at the last event is the leaf that is true
+abbrev pub verdict_at : State → ℕ → Bool
+verdict_at m root = is_one (now_of m root)
 
 -- what holds of each monitor
 pub record IsSound (m : State) : Type 0 where

@@ -16,7 +16,7 @@ ghost use Rattle.subformulas.specs.Unfolded.{formula_at};
 ghost use Rattle.bdd_ops.specs.Shelf.{IsLarge};
 ghost use Rattle.monitor_step.specs.Answers.{temporal_count};
 ghost use Rattle.monitor_step.specs.Stands.{AreTexts, first_memory};
-ghost use Rattle.monitor_step.specs.Monitor.{IsUntimed, MonitorStands, StepAnswers, AreCoded, HasSmallAtoms, step_bound, variables_of, now_of, memory_of, remembered_of};
+ghost use Rattle.monitor_step.specs.Monitor.{IsUntimed, MonitorStands, StepAnswers, AreCoded, HasSmallAtoms, step_bound, variables_of, now_of, memory_of, remembered_of, verdict_at};
 ghost use Rattle.monitor_step.specs.Serving.{pairs_at};
 ghost use Rattle.monitor_step.specs.Steps.{AnswersServing};
 ghost use Rattle.monitor_step.specs.Remembers.{first_memories, source_of, Remembers};
@@ -290,6 +290,7 @@ impl Monitor {
         ensures bits { IfOk result (λ m. m.bits ≡ sizes.bits) }
         ensures room { IfOk result (λ m. m.shelf.table.room ≡ sizes.nodes) }
         ensures entries { IfOk result (λ m. m.shelf.memo.entries ≡ sizes.cache) }
+        ensures time { IfOk result (λ m. m.last_time ≡ 0) }
         ensures stands { IfOk result (λ m. (log : List TheEvent) → MonitorStands m log 0) }
     {
         let store = Store::open(alloc, sizes.nodes, sizes.cache)?;
@@ -325,6 +326,8 @@ impl Monitor {
         ensures room { self.new.shelf.table.room ≡ self.old.shelf.table.room }
         ensures entries { self.new.shelf.memo.entries ≡ self.old.shelf.memo.entries }
         ensures live { self.new.live ≡ is_ok result }
+        ensures events { OnOk result (self.new.events ≡ self.old.events + 1) }
+        ensures time { OnOk result (self.new.last_time ≡ event.now.time) }
         ensures answers { (log : List TheEvent) (i : ℕ) → MonitorStands self.old log i → slice_get log i ≡ Some event.now → AreTexts log →
             StepAnswers self.old self.new log i event.now result }
         ensures no_memory { HasSmallAtoms self.old.plan → AreCoded self.old event.now → ¬ IsErrOf result TheNoMemory }
@@ -368,6 +371,7 @@ impl Monitor {
         requires live { self.now.live ≡ true }
         requires some { 1 ≤ self.now.events }
         requires p { p < length self.now.plan.props }
+        ensures is { option_map (λ q. verdict_at self.now q.root) (slice_get self.now.plan.props p) ≡ Some result }
         ensures truth { (log : List TheEvent) (i root : ℕ) (nu : List TheText) → MonitorStands self.now log i →
             option_map (λ q. q.root) (slice_get self.now.plan.props p) ≡ Some root → variables_of self.now ≤ length nu →
             IsTrue result ↔ TrueCore log nu (formula_at self.now.plan.subs root) i }

@@ -6,8 +6,8 @@ use Rattle.node_tree.specs.Tree.{One}
 use Rattle.node_table.specs.Table.{Table, tree_of, IsValid, IsShared}
 use Rattle.subformulas.specs.Unfolded.{formula_at}
 use Rattle.wellformed.specs.CoreTruth.{TrueCore}
-use Rattle.monitor_step.specs.Monitor.{State, IsSound, now_of}
-use Rattle.monitor_step.proofs.Judging.{verdict_is}
+use Rattle.monitor_step.specs.Monitor.{State, IsSound, now_of, verdict_at}
+use Rattle.monitor_step.proofs.Judging.{verdict_is, verdict_shown}
 use Rattle.monitor_step.proofs.monitor.Monitor.verdict.Goals as goal
 
 some_same : (a b : ℕ) → Some a ≡ Some b → a ≡ b
@@ -15,6 +15,14 @@ some_same a b e = cc
 
 pub returns : goal.returns
 returns c = record {
+  is = let m = c.args.self.now in
+      let shared = subst (λ (n : State). IsShared n.shelf.table) c.self.view_is c.live-nodes.ensures.shared in
+      let one = c.one.result in
+      let valid = subst (λ (n : State). IsValid n.shelf.table one) c.self.view_is (subst (λ (t : Table). IsValid t one) c.table.ensures c.one.ensures.valid) in
+      let tree = subst (λ (n : State). tree_of n.shelf.table one ≡ One) c.self.view_is (subst (λ (t : Table). tree_of t one ≡ One) c.table.ensures c.one.ensures.tree) in
+      let at = subst (λ (n : State). option_map (λ (q : PlanProp). q.root) (slice_get n.plan.props c.args.p) ≡ Some c.root.result) c.self.view_is c.root.ensures in
+      subst (λ b. option_map (λ (q : PlanProp). verdict_at m q.root) (slice_get m.plan.props c.args.p) ≡ Some b) (sym c.eq.ensures)
+      (verdict_shown m shared c.args.p c.root.result c.now.result one at c.now.ensures.valid c.now.ensures.tree valid tree);
   truth = λ log i root nu stands at long.
       let m = c.args.self.now in
       let sound = subst IsSound c.self.view_is c.self.invariant.0 in
