@@ -1,6 +1,6 @@
 -- What the files tell of a run, one call after the other.
 use Rattle.std.proofs.Common.{◌≡◌, ℕ, ◌⊎◌, inl, inr, List, [], ◌∷◌, ◌++◌, refl, sym, ap, ◌∙◌, subst, append_assoc, append-nil, arith, Bool, true, nat_lt}
-use Rattle.std.specs.Prelude.{Option, Some, None, IfSome, IsSomeAnd}
+use Rattle.std.specs.Prelude.{Option, Some, None, IfSome, IsSomeAnd, Ok, IsErrOf}
 use Rattle.std.proofs.lemmas.Bool.Decides.{nat_tests}
 use Rattle.mon_base.specs.Causes.{Rose}
 use Rattle.mon_base.specs.Told.{Stays, Gains, GainsTold}
@@ -9,7 +9,7 @@ use Rattle.monitor_run.specs.Files.{Gained, GainedFront, Opens, OpensOne, Hurts,
 use Rattle.monitor_run.specs.Last.{Sends, Finishes}
 use Rattle.monitor_run.specs.Specification.{IsUnspelled, SpecRefused}
 use Rattle.monitor_run.specs.declared.end.End.{End}
-use Rattle.monitor_run.specs.declared.end.End.TheVariants.{AllTrue, Violated, Usage, SpecTooLong, Spec, Names, NotBuilt, Log, LogTooLong, OpenFault, ReadFault, WriteFault, NoMemory}
+use Rattle.monitor_run.specs.declared.end.End.TheVariants.{AllTrue, Violated, Usage, SpecTooLong, Spec, Names, NotBuilt, Log, LogTooLong, CodesFull, NodesFull, OpenFault, ReadFault, WriteFault, NoMemory}
 use Rattle.monitor_run.specs.declared.end.Which.TheVariants as file
 
 -- Lists that are told
@@ -66,6 +66,8 @@ one_asked name (Names fault) a b h = front_all a b (name ∷ []) h
 one_asked name NotBuilt a b h = front_all a b (name ∷ []) h
 one_asked name (Log fault) a b h = front_all a b (name ∷ []) h
 one_asked name (LogTooLong most) a b h = front_all a b (name ∷ []) h
+one_asked name (CodesFull event variable need) a b h = front_all a b (name ∷ []) h
+one_asked name (NodesFull event subformula row) a b h = front_all a b (name ∷ []) h
 one_asked name WriteFault a b h = front_all a b (name ∷ []) h
 one_asked name NoMemory a b h = front_all a b (name ∷ []) h
 
@@ -83,8 +85,14 @@ one_hurt (Names fault) a b hurt reading failed h = tt
 one_hurt NotBuilt a b hurt reading failed h = tt
 one_hurt (Log fault) a b hurt reading failed h = tt
 one_hurt (LogTooLong most) a b hurt reading failed h = tt
+one_hurt (CodesFull event variable need) a b hurt reading failed h = tt
+one_hurt (NodesFull event subformula row) a b hurt reading failed h = tt
 one_hurt WriteFault a b hurt reading failed h = tt
 one_hurt NoMemory a b hurt reading failed h = tt
+
+-- a source was given, so there was memory for it
+pub given_no_err : {T E : Type 0} (x : T) (e : E) → IsErrOf (Ok x) e → ⊥
+given_no_err x e h = let never : ⊥ = cc in never
 
 -- a source that failed once has failed
 pub has_failed : (count : ℕ) → Rose 0 count → nat_lt 0 count ≡ true
@@ -106,6 +114,8 @@ both_opened spec log (Names fault) a b c known h k = absurd known
 both_opened spec log NotBuilt a b c known h k = absurd known
 both_opened spec log (Log fault) a b c known h k = front_behind a b c (spec ∷ []) (log ∷ []) h k
 both_opened spec log (LogTooLong most) a b c known h k = front_behind a b c (spec ∷ []) (log ∷ []) h k
+both_opened spec log (CodesFull event variable need) a b c known h k = front_behind a b c (spec ∷ []) (log ∷ []) h k
+both_opened spec log (NodesFull event subformula row) a b c known h k = front_behind a b c (spec ∷ []) (log ∷ []) h k
 both_opened spec log WriteFault a b c known h k = front_behind a b c (spec ∷ []) (log ∷ []) h k
 both_opened spec log NoMemory a b c known h k = front_behind a b c (spec ∷ []) (log ∷ []) h k
 
@@ -123,6 +133,8 @@ both_hurt (Names fault) a b c spec known h k = tt
 both_hurt NotBuilt a b c spec known h k = tt
 both_hurt (Log fault) a b c spec known h k = tt
 both_hurt (LogTooLong most) a b c spec known h k = tt
+both_hurt (CodesFull event variable need) a b c spec known h k = tt
+both_hurt (NodesFull event subformula row) a b c spec known h k = tt
 both_hurt WriteFault a b c spec known h k = tt
 both_hurt NoMemory a b c spec known h k = tt
 
@@ -141,6 +153,8 @@ refused_opened t rose spec log (Names fault) a b r h = front_more a b (spec ∷ 
 refused_opened t rose spec log NotBuilt a b r h = front_more a b (spec ∷ []) (log ∷ []) h
 refused_opened t rose spec log (Log fault) a b r h = absurd r
 refused_opened t rose spec log (LogTooLong most) a b r h = absurd r
+refused_opened t rose spec log (CodesFull event variable need) a b r h = absurd r
+refused_opened t rose spec log (NodesFull event subformula row) a b r h = absurd r
 refused_opened t rose spec log WriteFault a b r h = absurd r
 refused_opened t rose spec log NoMemory a b r h = front_more a b (spec ∷ []) (log ∷ []) h
 
@@ -158,6 +172,8 @@ refused_hurt t rose spec (Names fault) a b r h = tt
 refused_hurt t rose spec NotBuilt a b r h = tt
 refused_hurt t rose spec (Log fault) a b r h = tt
 refused_hurt t rose spec (LogTooLong most) a b r h = tt
+refused_hurt t rose spec (CodesFull event variable need) a b r h = tt
+refused_hurt t rose spec (NodesFull event subformula row) a b r h = tt
 refused_hurt t rose spec WriteFault a b r h = tt
 refused_hurt t rose spec NoMemory a b r h = tt
 
@@ -174,6 +190,8 @@ unspelled_hurt text (Names fault) a b r = tt
 unspelled_hurt text NotBuilt a b r = tt
 unspelled_hurt text (Log fault) a b r = tt
 unspelled_hurt text (LogTooLong most) a b r = tt
+unspelled_hurt text (CodesFull event variable need) a b r = tt
+unspelled_hurt text (NodesFull event subformula row) a b r = tt
 unspelled_hurt text WriteFault a b r = tt
 unspelled_hurt text NoMemory a b r = tt
 
@@ -194,6 +212,8 @@ any_front (spec ∷ log ∷ []) (Names fault) a b h = h
 any_front (spec ∷ log ∷ []) NotBuilt a b h = h
 any_front (spec ∷ log ∷ []) (Log fault) a b h = h
 any_front (spec ∷ log ∷ []) (LogTooLong most) a b h = h
+any_front (spec ∷ log ∷ []) (CodesFull event variable need) a b h = h
+any_front (spec ∷ log ∷ []) (NodesFull event subformula row) a b h = h
 any_front (spec ∷ log ∷ []) WriteFault a b h = h
 any_front (spec ∷ log ∷ []) NoMemory a b h = h
 any_front [] end a b h = h
@@ -211,35 +231,37 @@ sends_end out_rose w1 w2 bytes reached end (inl done) = inl done.0
 sends_end out_rose w1 w2 bytes reached end (inr part) = inr part.0
 
 -- the end is the one reached, but where the write of a line failed
-pub finish_end : (out_rose : Type 0) (w1 w2 : Option Text) (held : Text) (reached end : End) (events : ℕ) → Finishes reached events held w1 w2 out_rose end → (end ≡ reached) ⊎ (end ≡ WriteFault)
-finish_end out_rose w1 w2 held WriteFault end events f = inl f.0
-finish_end out_rose w1 w2 held NoMemory end events f = inl f.0
-finish_end out_rose w1 w2 held AllTrue end events f = sends_end out_rose w1 w2 _ AllTrue end f
-finish_end out_rose w1 w2 held (Violated count) end events f = sends_end out_rose w1 w2 _ (Violated count) end f
-finish_end out_rose w1 w2 held Usage end events f = sends_end out_rose w1 w2 _ Usage end f
-finish_end out_rose w1 w2 held SpecTooLong end events f = sends_end out_rose w1 w2 _ SpecTooLong end f
-finish_end out_rose w1 w2 held (Spec fault) end events f = sends_end out_rose w1 w2 _ (Spec fault) end f
-finish_end out_rose w1 w2 held (Names fault) end events f = sends_end out_rose w1 w2 _ (Names fault) end f
-finish_end out_rose w1 w2 held NotBuilt end events f = sends_end out_rose w1 w2 _ NotBuilt end f
-finish_end out_rose w1 w2 held (Log fault) end events f = sends_end out_rose w1 w2 _ (Log fault) end f
-finish_end out_rose w1 w2 held (LogTooLong most) end events f = sends_end out_rose w1 w2 _ (LogTooLong most) end f
-finish_end out_rose w1 w2 held (OpenFault which) end events f = sends_end out_rose w1 w2 _ (OpenFault which) end f
-finish_end out_rose w1 w2 held (ReadFault which) end events f = sends_end out_rose w1 w2 _ (ReadFault which) end f
+pub finish_end : (out_rose : Type 0) (w1 w2 : Option Text) (held : Text) (reached end : End) (events : ℕ) (name : Option Text) → Finishes reached events name held w1 w2 out_rose end → (end ≡ reached) ⊎ (end ≡ WriteFault)
+finish_end out_rose w1 w2 held WriteFault end events name f = inl f.0
+finish_end out_rose w1 w2 held NoMemory end events name f = inl f.0
+finish_end out_rose w1 w2 held AllTrue end events name f = sends_end out_rose w1 w2 _ AllTrue end f
+finish_end out_rose w1 w2 held (Violated count) end events name f = sends_end out_rose w1 w2 _ (Violated count) end f
+finish_end out_rose w1 w2 held Usage end events name f = sends_end out_rose w1 w2 _ Usage end f
+finish_end out_rose w1 w2 held SpecTooLong end events name f = sends_end out_rose w1 w2 _ SpecTooLong end f
+finish_end out_rose w1 w2 held (Spec fault) end events name f = sends_end out_rose w1 w2 _ (Spec fault) end f
+finish_end out_rose w1 w2 held (Names fault) end events name f = sends_end out_rose w1 w2 _ (Names fault) end f
+finish_end out_rose w1 w2 held NotBuilt end events name f = sends_end out_rose w1 w2 _ NotBuilt end f
+finish_end out_rose w1 w2 held (Log fault) end events name f = sends_end out_rose w1 w2 _ (Log fault) end f
+finish_end out_rose w1 w2 held (LogTooLong most) end events name f = sends_end out_rose w1 w2 _ (LogTooLong most) end f
+finish_end out_rose w1 w2 held (CodesFull event variable need) end events name f = sends_end out_rose w1 w2 _ (CodesFull event variable need) end f
+finish_end out_rose w1 w2 held (NodesFull event subformula row) end events name f = sends_end out_rose w1 w2 _ (NodesFull event subformula row) end f
+finish_end out_rose w1 w2 held (OpenFault which) end events name f = sends_end out_rose w1 w2 _ (OpenFault which) end f
+finish_end out_rose w1 w2 held (ReadFault which) end events name f = sends_end out_rose w1 w2 _ (ReadFault which) end f
 
 ended_as : (words : List Text) (reached end : End) (a b : Option (List Text)) → (end ≡ reached) ⊎ (end ≡ WriteFault) → Opens words reached a b → Opens words end a b
 ended_as words reached end a b (inl same) h = subst (λ (e : End). Opens words e a b) (sym same) h
 ended_as words reached end a b (inr failed) h = subst (λ (e : End). Opens words e a b) (sym failed) (write_opened words a b (any_front words reached a b h))
 
-pub ended_opened : (words : List Text) (out_rose : Type 0) (w1 w2 : Option Text) (held : Text) (reached end : End) (events : ℕ) (a b : Option (List Text)) → Finishes reached events held w1 w2 out_rose end →
+pub ended_opened : (words : List Text) (out_rose : Type 0) (w1 w2 : Option Text) (held : Text) (reached end : End) (events : ℕ) (name : Option Text) (a b : Option (List Text)) → Finishes reached events name held w1 w2 out_rose end →
     Opens words reached a b → Opens words end a b
-ended_opened words out_rose w1 w2 held reached end events a b f h = ended_as words reached end a b (finish_end out_rose w1 w2 held reached end events f) h
+ended_opened words out_rose w1 w2 held reached end events name a b f h = ended_as words reached end a b (finish_end out_rose w1 w2 held reached end events name f) h
 
 hurt_as : (reached end : End) (a b : Option (List Bool)) → (end ≡ reached) ⊎ (end ≡ WriteFault) → Hurts reached a b → Hurts end a b
 hurt_as reached end a b (inl same) h = subst (λ (e : End). Hurts e a b) (sym same) h
 hurt_as reached end a b (inr failed) h = subst (λ (e : End). Hurts e a b) (sym failed) tt
 
-pub ended_hurt : (out_rose : Type 0) (w1 w2 : Option Text) (held : Text) (reached end : End) (events : ℕ) (a b : Option (List Bool)) → Finishes reached events held w1 w2 out_rose end → Hurts reached a b → Hurts end a b
-ended_hurt out_rose w1 w2 held reached end events a b f h = hurt_as reached end a b (finish_end out_rose w1 w2 held reached end events f) h
+pub ended_hurt : (out_rose : Type 0) (w1 w2 : Option Text) (held : Text) (reached end : End) (events : ℕ) (name : Option Text) (a b : Option (List Bool)) → Finishes reached events name held w1 w2 out_rose end → Hurts reached a b → Hurts end a b
+ended_hurt out_rose w1 w2 held reached end events name a b f h = hurt_as reached end a b (finish_end out_rose w1 w2 held reached end events name f) h
 
 -- What was left unread
 

@@ -1,44 +1,13 @@
 -- Ends by their cases.
-use Rattle.std.proofs.Common.{◌≡◌, ℕ, ◌≤◌, ◌⊎◌, inl, inr, List, sym, subst, arith, Bool}
-use Rattle.std.specs.Prelude.{Option}
+use Rattle.std.proofs.Common.{◌≡◌, ℕ, ◌≤◌, sym, subst, arith}
 use Rattle.mon_base.specs.Causes.{Rose}
-use Rattle.qtl_syntax.specs.Tree.{Text, Item}
-use Rattle.qtl_truth.specs.declared.event.Event.{Event}
-use Rattle.log_reader.specs.Standing.{Reading}
 use Rattle.log_reader.specs.declared.fault.LogFault.{LogFault}
 use Rattle.log_reader.specs.declared.fault.LogFault.TheVariants as log_fault
 use Rattle.monitor_run.specs.Answer.{HasFaultCause}
 use Rattle.monitor_run.specs.Files.{IsReadingEnd}
-use Rattle.monitor_run.specs.Reading.{LogReached}
 use Rattle.monitor_run.specs.Specification.{end_of_log}
-use Rattle.monitor_run.specs.Standing.{Walked}
 use Rattle.monitor_run.specs.declared.end.End.{End}
-use Rattle.monitor_run.specs.declared.end.End.TheVariants.{AllTrue, Violated, Usage, SpecTooLong, Spec, Names, NotBuilt, Log, LogTooLong, OpenFault, ReadFault, WriteFault, NoMemory}
-use Rattle.monitor_run.specs.declared.judge.Judge.{Judge}
-use Rattle.monitor_run.proofs.Given.{IsFaulty}
-use Rattle.monitor_run.proofs.Walks.{walk_faulty, walk_starved}
-
--- no further record: there is no memory, or the log has this fault
-abbrev pub Stopped : Text → Bool → List Event → LogFault → Type 0
-Stopped given ended log fault = (fault ≡ log_fault.NoMemory) ⊎ IsFaulty given ended log fault
-
-pub fault_reached : (items : List Item) (limit : ℕ) (all : Text) (left sent w1 : Option Text) (given : Text) (ended : Bool) (j : Judge) (r : Reading) (held : Text) (fault : LogFault) →
-    (w : Walked items limit all left sent w1 given ended j r held) → Stopped given ended w.log fault → LogReached items limit all left sent w1 held (end_of_log fault) j.events
-fault_reached items limit all left sent w1 given ended j r held log_fault.NoMemory w stopped = walk_starved items limit all left left sent w1 given ended j r held j.events w
-fault_reached items limit all left sent w1 given ended j r held (log_fault.QuoteOpen n) w (inl none) = let n : ⊥ = cc in absurd n
-fault_reached items limit all left sent w1 given ended j r held (log_fault.QuoteOpen n) w (inr f) = walk_faulty items limit all left sent w1 given ended j r held (log_fault.QuoteOpen n) w f
-fault_reached items limit all left sent w1 given ended j r held (log_fault.AfterQuote n) w (inl none) = let n : ⊥ = cc in absurd n
-fault_reached items limit all left sent w1 given ended j r held (log_fault.AfterQuote n) w (inr f) = walk_faulty items limit all left sent w1 given ended j r held (log_fault.AfterQuote n) w f
-fault_reached items limit all left sent w1 given ended j r held (log_fault.RecordTooLong n) w (inl none) = let n : ⊥ = cc in absurd n
-fault_reached items limit all left sent w1 given ended j r held (log_fault.RecordTooLong n) w (inr f) = walk_faulty items limit all left sent w1 given ended j r held (log_fault.RecordTooLong n) w f
-fault_reached items limit all left sent w1 given ended j r held (log_fault.TooManyFields n) w (inl none) = let n : ⊥ = cc in absurd n
-fault_reached items limit all left sent w1 given ended j r held (log_fault.TooManyFields n) w (inr f) = walk_faulty items limit all left sent w1 given ended j r held (log_fault.TooManyFields n) w f
-fault_reached items limit all left sent w1 given ended j r held (log_fault.EmptyName n) w (inl none) = let n : ⊥ = cc in absurd n
-fault_reached items limit all left sent w1 given ended j r held (log_fault.EmptyName n) w (inr f) = walk_faulty items limit all left sent w1 given ended j r held (log_fault.EmptyName n) w f
-fault_reached items limit all left sent w1 given ended j r held (log_fault.BadTime n) w (inl none) = let n : ⊥ = cc in absurd n
-fault_reached items limit all left sent w1 given ended j r held (log_fault.BadTime n) w (inr f) = walk_faulty items limit all left sent w1 given ended j r held (log_fault.BadTime n) w f
-fault_reached items limit all left sent w1 given ended j r held (log_fault.TimeBack n b m) w (inl none) = let n : ⊥ = cc in absurd n
-fault_reached items limit all left sent w1 given ended j r held (log_fault.TimeBack n b m) w (inr f) = walk_faulty items limit all left sent w1 given ended j r held (log_fault.TimeBack n b m) w f
+use Rattle.monitor_run.specs.declared.end.End.TheVariants.{AllTrue, Violated, Usage, SpecTooLong, Spec, Names, NotBuilt, Log, LogTooLong, CodesFull, NodesFull, OpenFault, ReadFault, WriteFault, NoMemory}
 
 -- none of these ends is a fault of a file or of the output
 pub log_cause : (rose : Type 0) (fault : LogFault) (end : End) → end ≡ end_of_log fault → HasFaultCause ⊥ rose end
@@ -76,6 +45,8 @@ cause_more files out out' (Names fault) later h = tt
 cause_more files out out' NotBuilt later h = tt
 cause_more files out out' (Log fault) later h = tt
 cause_more files out out' (LogTooLong limit) later h = tt
+cause_more files out out' (CodesFull event variable need) later h = tt
+cause_more files out out' (NodesFull event subformula row) later h = tt
 cause_more files out out' (OpenFault which) later h = absurd h
 cause_more files out out' (ReadFault which) later h = absurd h
 cause_more files out out' WriteFault later h = later h
@@ -99,6 +70,8 @@ cause_later files files' out out' (Names fault) f o h = tt
 cause_later files files' out out' NotBuilt f o h = tt
 cause_later files files' out out' (Log fault) f o h = tt
 cause_later files files' out out' (LogTooLong limit) f o h = tt
+cause_later files files' out out' (CodesFull event variable need) f o h = tt
+cause_later files files' out out' (NodesFull event subformula row) f o h = tt
 cause_later files files' out out' (OpenFault which) f o h = f h
 cause_later files files' out out' (ReadFault which) f o h = f h
 cause_later files files' out out' WriteFault f o h = o h

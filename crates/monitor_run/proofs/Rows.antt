@@ -1,5 +1,5 @@
 -- The verdicts of the monitor are those of the properties, and go on by one row for each event.
-use Rattle.std.proofs.Common.{◌≡◌, ℕ, zero, suc, ◌+◌, ◌-◌, ◌<◌, ◌≤◌, ◌⊎◌, inl, inr, List, [], ◌∷◌, ◌++◌, map, length, length-append, refl, sym, ap, ◌∙◌, subst, append_assoc, append-nil, arith, Bool, false, get_or}
+use Rattle.std.proofs.Common.{◌≡◌, ℕ, zero, suc, ◌+◌, ◌<◌, ◌≤◌, ◌⊎◌, ◌↔◌, inl, inr, List, [], ◌∷◌, ◌++◌, map, length, length-append, refl, sym, ap, ◌∙◌, subst, append_assoc, append-nil, arith, Bool, true, false, IsTrue, get_or}
 use Rattle.std.specs.List.{AllByRecursion}
 use Rattle.std.proofs.lemmas.Bool.{cases_lt}
 use Rattle.qtl_syntax.specs.Tree.{Text, Item, Pred, Prop}
@@ -8,12 +8,19 @@ use Rattle.qtl_truth.proofs.Past.{holds_past, same_to_append}
 use Rattle.wellformed.specs.Kept.{AreKept}
 use Rattle.subformulas.specs.declared.table.PlanProp.{PlanProp}
 use Rattle.subformulas.specs.declared.table.Sub.{Sub}
-use Rattle.subformulas.specs.Table.{HasRoot}
+use Rattle.subformulas.specs.Assigned.{texts_in, Truth}
+use Rattle.subformulas.specs.Table.{HasRoot, IsClosedProp, IsSound}
 use Rattle.subformulas.specs.Unfolded.{formula_at, props_at}
-use Rattle.untimed_monitor.specs.Kept.{Tells}
-use Rattle.untimed_monitor.specs.Stands.{State, AreTold, StandsFor, row_of}
+use Rattle.subformulas.proofs.Below.{each_atom_below}
+use Rattle.subformulas.proofs.Closed.{closed_is}
+use Rattle.subformulas.proofs.FromLists.{in_list, truth_read}
+use Rattle.node_tree.specs.Tree.{Zero, One}
+use Rattle.wellformed.specs.CoreTruth.{TrueCore}
+use Rattle.monitor_step.specs.Monitor.{State, MonitorStands, variables_of, now_of, is_one, verdict_at}
+use Rattle.monitor_step.specs.Stands.{AreTexts}
+use Rattle.monitor_step.proofs.Verdict.{verdict}
 use Rattle.monitor_run.specs.Report.{event_lines, violation_lines}
-use Rattle.monitor_run.specs.Standing.{IsPlanOf, names_in}
+use Rattle.monitor_run.specs.Standing.{IsPlanOf, StandsFor, names_in, row_of}
 use Rattle.monitor_run.specs.Verdicts.{Property, properties, properties_behind, names, IsRow, AreVerdicts, false_in, false_count}
 
 -- the names are those of the properties
@@ -28,38 +35,54 @@ names_kept log nu subs before (Prop name body ∷ items) (q ∷ props) k =
     let first = k.0 in
     cc
 
+-- the verdict on a property is its truth
+verdict_tells : (m : State) → IsSound m.plan → (log : List Event) (i : ℕ) (nu : List Text) → MonitorStands m log i → 1 ≤ i → variables_of m ≤ length nu → (q : PlanProp) → IsClosedProp m.plan.subs q →
+    HasRoot (length m.plan.subs) q → IsTrue (verdict_at m q.root) ↔ TrueCore log nu (formula_at m.plan.subs q.root) i
+verdict_tells m sound log i nu stands some long q closed root =
+    by_tree (verdict m.bits m.plan.subs log i stands.books q.root (now_of m q.root) (closed_is (formula_at m.plan.subs q.root) closed) (stands.stands.now_is some q.root root.0 root.1) (texts_in nu))
+  where
+    reads : TrueCore log nu (formula_at m.plan.subs q.root) i ↔ Truth log (formula_at m.plan.subs q.root) (texts_in nu) i
+    reads = truth_read log (variables_of m) (formula_at m.plan.subs q.root) (each_atom_below (variables_of m) m.plan.subs sound.table sound.uses q.root root.0 root.1) nu (texts_in nu) (λ x l. in_list nu x (omega (arith, long, l))) i
+
+    by_tree : ((now_of m q.root ≡ One) × Truth log (formula_at m.plan.subs q.root) (texts_in nu) i) ⊎ ((now_of m q.root ≡ Zero) × (¬ Truth log (formula_at m.plan.subs q.root) (texts_in nu) i)) →
+        IsTrue (verdict_at m q.root) ↔ TrueCore log nu (formula_at m.plan.subs q.root) i
+    by_tree (inl h) = (λ x. reads.1 h.1, λ x. ap is_one h.0)
+    by_tree (inr h) = (λ x. absurd (let no : true ≡ false = sym x ∙ ap is_one h.0 in cc), λ x. absurd (h.1 (reads.0 x)))
+
+rows_kept : (m : State) → IsSound m.plan → (log : List Event) (i : ℕ) (nu : List Text) → MonitorStands m log i → 1 ≤ i → variables_of m ≤ length nu → (before items : List Item) (props : List PlanProp) →
+    AreKept log nu before items (props_at m.plan.subs props) → AllByRecursion (IsClosedProp m.plan.subs) props → AllByRecursion (HasRoot (length m.plan.subs)) props →
+    IsRow log i (properties_behind before items) (map (λ q. verdict_at m q.root) props)
+rows_kept m sound log i nu stands some long before [] [] k closed roots = tt
+rows_kept m sound log i nu stands some long before [] (q ∷ props) k closed roots = absurd k
+rows_kept m sound log i nu stands some long before (Pred name params body ∷ items) props k closed roots =
+    rows_kept m sound log i nu stands some long (Pred name params body ∷ before) items props k closed roots
+rows_kept m sound log i nu stands some long before (Prop name body ∷ items) [] k closed roots = absurd k
+rows_kept m sound log i nu stands some long before (Prop name body ∷ items) (q ∷ props) k closed roots =
+    let here = k.1 i in
+    let tells = verdict_tells m sound log i nu stands some long q closed.0 roots.0 in
+    ((λ x. here.1 (tells.0 x), λ x. tells.1 (here.0 x)), rows_kept m sound log i nu stands some long (Prop name body ∷ before) items props k.2 closed.1 roots.1)
+
+-- a list with a text for each variable
+abbrev texts_for : ℕ → List Text
+texts_for zero = []
+texts_for (suc n) = [] ∷ texts_for n
+
+many_texts : (n : ℕ) → n ≤ length (texts_for n)
+many_texts zero = omega arith
+many_texts (suc n) = let h = many_texts n in omega (arith, h)
+
 pub plan_names : (items : List Item) (m : State) → IsPlanOf items m.plan → names_in m ≡ names (properties items)
-plan_names items m p = names_kept [] [] m.plan.subs [] items m.plan.props (p.kept [])
-
--- what is told of the roots
-abbrev IsToldAt : List Sub → List Bool → List Event → PlanProp → Type 0
-IsToldAt subs truths log q = Tells (get_or truths (q.root - 1) false) log (formula_at subs q.root) (length log)
-
-roots_told : (subs : List Sub) (truths : List Bool) (log : List Event) (props : List PlanProp) → AllByRecursion (HasRoot (length subs)) props →
-    AreTold subs log (length log) (length subs) truths → AllByRecursion (IsToldAt subs truths log) props
-roots_told subs truths log [] roots told = tt
-roots_told subs truths log (q ∷ props) roots told =
-    let root = roots.0 in
-    let place : q.root - 1 < length subs = omega (arith, root.0, root.1) in
-    let same : q.root - 1 + 1 ≡ q.root = omega (arith, root.0) in
-    (subst (λ (k : ℕ). Tells (get_or truths (q.root - 1) false) log (formula_at subs k) (length log)) same (told (q.root - 1) place), roots_told subs truths log props roots.1 told)
-
-rows_kept : (subs : List Sub) (truths : List Bool) (log : List Event) (before items : List Item) (props : List PlanProp) → AreKept log [] before items (props_at subs props) →
-    AllByRecursion (IsToldAt subs truths log) props → IsRow log (length log) (properties_behind before items) (map (λ q. get_or truths (q.root - 1) false) props)
-rows_kept subs truths log before [] [] k told = tt
-rows_kept subs truths log before [] (q ∷ props) k told = absurd k
-rows_kept subs truths log before (Pred name params body ∷ items) props k told = rows_kept subs truths log (Pred name params body ∷ before) items props k told
-rows_kept subs truths log before (Prop name body ∷ items) [] k told = absurd k
-rows_kept subs truths log before (Prop name body ∷ items) (q ∷ props) k told =
-    let here = k.1 (length log) in
-    ((λ x. here.1 (told.0.0 x), λ x. told.0.1 (here.0 x)), rows_kept subs truths log (Prop name body ∷ before) items props k.2 told.1)
+plan_names items m p =
+    let nu = texts_for (variables_of m) in
+    names_kept [] nu m.plan.subs [] items m.plan.props (p.kept [] nu (many_texts (variables_of m)))
 
 -- the row of a monitor that stands for a log has the verdicts of the log's last event
 pub row_right : (items : List Item) (m : State) (log : List Event) → IsPlanOf items m.plan → StandsFor m log → 1 ≤ length log → IsRow log (length log) (properties items) (row_of m)
 row_right items m log p s some =
-    let told : AreTold m.plan.subs log (length log) (length m.plan.subs) m.truths =
-    subst (λ (l : List Event). AreTold m.plan.subs l (length log) (length m.plan.subs) m.truths) (append-nil log) (s.told some []) in
-    rows_kept m.plan.subs m.truths log [] items m.plan.props (p.kept log) (roots_told m.plan.subs m.truths log m.plan.props p.sound.roots told)
+    let nu = texts_for (variables_of m) in
+    let long = many_texts (variables_of m) in
+    let stands = subst (λ (l : List Event). AreTexts l → MonitorStands m l (length log)) (append-nil log) (s.stands []) s.texts in
+    rows_kept m p.sound log (length log) nu stands some long [] items m.plan.props (p.kept log nu long) p.sound.closed p.sound.roots
 
 -- a row stays right when an event comes
 row_stays : (log : List Event) (e : Event) (i : ℕ) → 1 ≤ i → i ≤ length log → (ps : List Property) (row : List Bool) → IsRow log i ps row → IsRow (log ++ e ∷ []) i ps row

@@ -1,17 +1,26 @@
 -- What is read of a specification's text.
-use Rattle.std.proofs.Common.{◌≡◌, List, [], refl, arith}
+use Rattle.std.proofs.Common.{◌≡◌, ◌∙◌, List, [], ◌∷◌, ◌++◌, refl, sym, ap, arith, true, false}
 use Rattle.std.specs.Prelude.{Option, Some, None, IfSome, Result, Ok, Err, IfOk, IfErr}
+use Rattle.std.specs.List.{list_any}
 use Rattle.qtl_syntax.specs.Tree.{Text, Item}
-use Rattle.untimed_monitor.specs.Stands.{StandsFor}
+use Rattle.subformulas.specs.Table.{Table}
+use Rattle.wellformed.specs.Expansion.{expanded_props}
+use Rattle.wellformed.specs.Timed.{has_timed}
+use Rattle.qtl_truth.specs.declared.event.Event.{Event}
+use Rattle.monitor_step.specs.Monitor.{MonitorStands}
+use Rattle.monitor_run.specs.Answer.{IsBuilt}
 use Rattle.monitor_run.specs.Specification.{SpecIs, IsSpelled, IsUnspelled, SpecRead, SpecRefused}
-use Rattle.monitor_run.specs.Standing.{IsPlanOf, StandsAt}
+use Rattle.monitor_run.specs.Standing.{HasSizes, IsPlanOf, StandsAt}
+use Rattle.monitor_run.specs.Stops.{table_in}
+use Rattle.monitor_run.proofs.Untimed.{any_timed, all_timed}
 use Rattle.monitor_run.specs.declared.judge.Judge.{Judge}
+use Rattle.monitor_run.specs.declared.limits.Limits.{Limits}
 use Rattle.monitor_run.specs.declared.end.End.{End}
-use Rattle.monitor_run.specs.declared.end.End.TheVariants.{AllTrue, Violated, Usage, SpecTooLong, Spec, Names, NotBuilt, Log, LogTooLong, OpenFault, ReadFault, WriteFault, NoMemory}
+use Rattle.monitor_run.specs.declared.end.End.TheVariants.{AllTrue, Violated, Usage, SpecTooLong, Spec, Names, NotBuilt, Log, LogTooLong, CodesFull, NodesFull, OpenFault, ReadFault, WriteFault, NoMemory}
 
-spelled_read : (t : Option (List (Text × Text))) (spec text : Text) (judge : Judge) → IfSome t (λ files. SpecIs files spec text) → IsSpelled text judge → SpecRead t spec judge
-spelled_read None spec text judge s h = record { items = h.items; stands = h.stands; accepted = tt }
-spelled_read (Some files) spec text judge s h =
+spelled_read : (limits : Limits) (t : Option (List (Text × Text))) (spec text : Text) (judge : Judge) → IfSome t (λ files. SpecIs files spec text) → IsSpelled limits text judge → SpecRead limits t spec judge
+spelled_read limits None spec text judge s h = record { items = h.items; stands = h.stands; accepted = tt }
+spelled_read limits (Some files) spec text judge s h =
     record { items = h.items; stands = h.stands; accepted = record { spelled = rw s.0 (s.1, h.spelled); clear = h.clear; built = h.built } }
 
 unspelled_read : (t : Option (List (Text × Text))) (spec text : Text) (rose : Type 0) (end : End) → IfSome t (λ files. SpecIs files spec text) → IsUnspelled text end → SpecRefused t spec rose end
@@ -28,19 +37,45 @@ unspelled_read t spec text rose Usage s h = absurd h
 unspelled_read t spec text rose SpecTooLong s h = absurd h
 unspelled_read t spec text rose (Log fault) s h = absurd h
 unspelled_read t spec text rose (LogTooLong limit) s h = absurd h
+unspelled_read t spec text rose (CodesFull event variable need) s h = absurd h
+unspelled_read t spec text rose (NodesFull event subformula row) s h = absurd h
 unspelled_read t spec text rose (OpenFault which) s h = absurd h
 unspelled_read t spec text rose (ReadFault which) s h = absurd h
 unspelled_read t spec text rose WriteFault s h = absurd h
 
-pub read_ok : (r : Result Judge End) (t : Option (List (Text × Text))) (spec text : Text) → IfSome t (λ files. SpecIs files spec text) → IfOk r (λ judge. IsSpelled text judge) → IfOk r (λ judge. SpecRead t spec judge)
-read_ok (Ok judge) t spec text s h = spelled_read t spec text judge s h
-read_ok (Err end) t spec text s h = h
+pub read_ok : (limits : Limits) (r : Result Judge End) (t : Option (List (Text × Text))) (spec text : Text) → IfSome t (λ files. SpecIs files spec text) → IfOk r (λ judge. IsSpelled limits text judge) → IfOk r (λ judge. SpecRead limits t spec judge)
+read_ok limits (Ok judge) t spec text s h = spelled_read limits t spec text judge s h
+read_ok limits (Err end) t spec text s h = h
 
 pub read_err : (r : Result Judge End) (t : Option (List (Text × Text))) (spec text : Text) (rose : Type 0) → IfSome t (λ files. SpecIs files spec text) → IfErr r (λ end. IsUnspelled text end) → IfErr r (λ end. SpecRefused t spec rose end)
 read_err (Ok judge) t spec text rose s h = h
 read_err (Err end) t spec text rose s h = unspelled_read t spec text rose end s h
 
+-- no event came
+none_before : (before later : List Event) (e : Event) → [] ≡ before ++ e ∷ later → ⊥
+none_before [] later e is = let n : ⊥ = cc in n
+none_before (x ∷ before) later e is = let n : ⊥ = cc in n
+
 -- the judge before the first event
-pub judge_stands : (items : List Item) (judge : Judge) → IsPlanOf items judge.monitor.plan → StandsFor judge.monitor [] → judge.events ≡ 0 → judge.violations ≡ 0 → StandsAt items [] [] judge
-judge_stands items judge plan stands events violations =
-    record { plan = plan; stands = stands; right = record { count = refl; each = λ i h. absurd (omega arith) }; events = events; violations = violations }
+pub judge_stands : (limits : Limits) (items : List Item) (judge : Judge) → IsPlanOf items judge.monitor.plan → HasSizes limits judge.monitor → ((log : List Event) → MonitorStands judge.monitor log 0) →
+    judge.events ≡ 0 → judge.violations ≡ 0 → StandsAt limits items [] [] judge
+judge_stands limits items judge plan sizes stands events violations =
+    record {
+      plan = plan;
+      sizes = sizes;
+      stands = record { texts = λ j e a at has. let n : ⊥ = cc in absurd n; stands = λ later texts. stands later };
+      fits = λ before later e is. absurd (none_before before later e is);
+      right = record { count = refl; each = λ i h. absurd (omega arith) };
+      events = events;
+      violations = violations;
+    }
+
+-- a plan has a timed operator exactly where its properties have one
+timed_alike : (items : List Item) (plan : Table) → plan.subs ≡ table_in items → any_timed plan.subs ≡ list_any (λ p. has_timed p.1) (expanded_props [] 0 items)
+timed_alike items plan rows = ap any_timed rows ∙ all_timed 0 (expanded_props [] 0 items)
+
+pub built_when : (items : List Item) (plan : Table) → plan.subs ≡ table_in items → any_timed plan.subs ≡ false → IsBuilt items
+built_when items plan rows untimed = sym (timed_alike items plan rows) ∙ untimed
+
+pub built_where : (items : List Item) (plan : Table) → plan.subs ≡ table_in items → IsBuilt items → any_timed plan.subs ≡ true → ⊥
+built_where items plan rows built timed = let no : true ≡ false = sym timed ∙ (timed_alike items plan rows ∙ built) in let n : ⊥ = cc in n

@@ -1,14 +1,14 @@
 -- The lines of an event, verdict by verdict.
-use Rattle.std.proofs.Common.{◌≡◌, ℕ, zero, suc, ◌+◌, ◌-◌, ◌≤◌, List, [], ◌∷◌, ◌++◌, length, take, drop, refl, sym, ap, ◌∙◌, append_assoc, append-nil, arith, Bool, true, false, Some, None, get_or, subst}
+use Rattle.std.proofs.Common.{◌≡◌, ℕ, zero, suc, ◌+◌, ◌≤◌, List, [], ◌∷◌, ◌++◌, length, take, drop, refl, sym, ap, ◌∙◌, append_assoc, append-nil, arith, Bool, true, false, Some, None, subst}
 use Rattle.std.specs.Prelude.{Option, slice_get, if◌then◌else◌}
 use Rattle.std.proofs.lemmas.List.{length-map}
 use Rattle.mon_base.specs.Told.{AppendsFront}
 use Rattle.qtl_syntax.specs.Tree.{Text}
 use Rattle.subformulas.specs.declared.table.PlanProp.{PlanProp}
-use Rattle.untimed_monitor.specs.Stands.{State, row_of}
+use Rattle.monitor_step.specs.Monitor.{State, verdict_at}
 use Rattle.monitor_run.specs.Passing.{Passes}
 use Rattle.monitor_run.specs.Report.{event_lines, verdict_text}
-use Rattle.monitor_run.specs.Standing.{names_in}
+use Rattle.monitor_run.specs.Standing.{names_in, row_of}
 use Rattle.monitor_run.specs.Verdicts.{false_in}
 use Rattle.monitor_run.proofs.Passages.{passes_front, front_more}
 
@@ -61,11 +61,11 @@ take_past (x ∷ xs) (suc n) h = ap (λ l. x ∷ l) (take_past xs n (omega arith
 pub all_lines : (event : ℕ) (m : State) (p : ℕ) → length m.plan.props ≤ p → first_lines event (names_in m) (row_of m) p ≡ event_lines event (names_in m) (row_of m)
 all_lines event m p h =
     let a = take_past (names_in m) p (let n = length-map m.plan.props (λ (q : PlanProp). q.name) in omega (arith, n, h)) in
-    let b = take_past (row_of m) p (let n = length-map m.plan.props (λ (q : PlanProp). get_or m.truths (q.root - 1) false) in omega (arith, n, h)) in
+    let b = take_past (row_of m) p (let n = length-map m.plan.props (λ (q : PlanProp). verdict_at m q.root) in omega (arith, n, h)) in
     rw (a, b) refl
 
 pub all_false : (m : State) (p : ℕ) → length m.plan.props ≤ p → false_in (take p (row_of m)) ≡ false_in (row_of m)
-all_false m p h = ap false_in (take_past (row_of m) p (let n = length-map m.plan.props (λ (q : PlanProp). get_or m.truths (q.root - 1) false) in omega (arith, n, h)))
+all_false m p h = ap false_in (take_past (row_of m) p (let n = length-map m.plan.props (λ (q : PlanProp). verdict_at m q.root) in omega (arith, n, h)))
 
 -- one verdict more
 pub next_lines : (event : ℕ) (names : List Text) (row : List Bool) (p : ℕ) (n : Text) (v : Bool) → slice_get names p ≡ Some n → slice_get row p ≡ Some v →

@@ -1,5 +1,5 @@
 -- What is written at each end of a run, and when that end comes.
-use Rattle.std.specs.Prelude.{◌≡◌, ◌≢◌, ℕ, zero, suc, ◌<◌, ◌≤◌, ◌⊎◌, ⊤, List, [], ◌∷◌, ◌++◌, length, Bool, false, Option, Some, None, IsSomeAnd, codes, decimal}
+use Rattle.std.specs.Prelude.{◌≡◌, ◌≢◌, ℕ, zero, suc, ◌<◌, ◌≤◌, ◌⊎◌, ⊤, List, [], ◌∷◌, ◌++◌, length, Bool, false, Option, Some, None, IsSomeAnd, unwrap_or, codes, decimal}
 use Rattle.std.specs.List.{list_any}
 use Rattle.std.specs.Io.KnownBytes.{Appends}
 use Rattle.mon_base.specs.Told.{text_of}
@@ -8,7 +8,7 @@ use Rattle.qtl_syntax.specs.Faults.{SpellsWithin, IsFault}
 use Rattle.qtl_syntax.specs.declared.fault.SpecFault.{SpecFault}
 use Rattle.qtl_syntax.specs.declared.fault.SpecFault.TheVariants as spec_fault
 use Rattle.qtl_truth.specs.declared.event.Event.{Event}
-use Rattle.wellformed.specs.Expansion.{expanded_props, props_variables}
+use Rattle.wellformed.specs.Expansion.{expanded_props}
 use Rattle.wellformed.specs.Faults.{first_fault}
 use Rattle.wellformed.specs.Timed.{has_timed}
 use Rattle.wellformed.specs.declared.fault.NameFault.{NameFault}
@@ -16,14 +16,17 @@ use Rattle.wellformed.specs.declared.fault.NameFault.TheVariants as name_fault
 use Rattle.log_reader.specs.Records as log_records
 use Rattle.log_reader.specs.declared.fault.LogFault.{LogFault}
 use Rattle.log_reader.specs.declared.fault.LogFault.TheVariants as log_fault
+use Rattle.monitor_step.specs.Ends as event_end
 use Rattle.monitor_run.specs.Records.{records, IsFaultAt}
 use Rattle.monitor_run.specs.Report.{violation_lines}
+use Rattle.monitor_run.specs.Stops.{AllFit, StopsAt, variable_name}
 use Rattle.monitor_run.specs.Verdicts.{properties, names, AreVerdicts, false_count}
 use Rattle.monitor_run.specs.declared.end.End.{End}
-use Rattle.monitor_run.specs.declared.end.End.TheVariants.{AllTrue, Violated, Usage, SpecTooLong, Spec, Names, NotBuilt, Log, LogTooLong, OpenFault, ReadFault, WriteFault, NoMemory}
+use Rattle.monitor_run.specs.declared.end.End.TheVariants.{AllTrue, Violated, Usage, SpecTooLong, Spec, Names, NotBuilt, Log, LogTooLong, CodesFull, NodesFull, OpenFault, ReadFault, WriteFault, NoMemory}
 use Rattle.monitor_run.specs.declared.end.Which.{Which}
 use Rattle.monitor_run.specs.declared.end.Which.TheVariants as file
-use Rattle.monitor_run.specs.declared.TheConstants.{MAX_SPEC, MAX_LOG}
+use Rattle.monitor_run.specs.declared.limits.Limits.{Limits}
+use Rattle.monitor_run.specs.declared.TheConstants.{MAX_SPEC}
 
 -- the exit status of an end
 abbrev pub status_of : End → ℕ
@@ -35,6 +38,8 @@ status_of (Spec fault) = 3
 status_of (Names fault) = 3
 status_of (Log fault) = 4
 status_of (LogTooLong limit) = 4
+status_of (CodesFull event variable need) = 5
+status_of (NodesFull event subformula row) = 5
 status_of (OpenFault which) = 6
 status_of (ReadFault which) = 6
 status_of WriteFault = 6
@@ -71,6 +76,8 @@ IsDecided (Names fault) = ⊤
 IsDecided NotBuilt = ⊤
 IsDecided (Log fault) = ⊤
 IsDecided (LogTooLong limit) = ⊤
+IsDecided (CodesFull event variable need) = ⊤
+IsDecided (NodesFull event subformula row) = ⊤
 IsDecided _ = ⊥
 
 -- the line that tells why a specification is refused by its grammar, and where
@@ -119,21 +126,33 @@ abbrev pub file_text : Which → Text
 file_text file.Spec = codes "the specification"
 file_text file.Log = codes "the log"
 
--- the last line of a run that judged so many events
-abbrev pub last_line : End → ℕ → Text
-last_line AllTrue events = codes "events " ++ (decimal events ++ (codes " violations " ++ (decimal 0 ++ codes "\n")))
-last_line (Violated count) events = codes "events " ++ (decimal events ++ (codes " violations " ++ (decimal count ++ codes "\n")))
-last_line Usage events = codes "stopped: usage: dejavu SPEC LOG\n"
-last_line SpecTooLong events = codes "stopped: specification longer than 1048576 bytes\n"
-last_line (Spec fault) events = fault_line fault
-last_line (Names fault) events = name_line fault
-last_line (Log fault) events = log_line fault
-last_line NotBuilt events = codes "stopped: not built\n"
-last_line (LogTooLong limit) events = codes "stopped: log longer than " ++ (decimal limit ++ codes " bytes\n")
-last_line (OpenFault which) events = codes "stopped: cannot open " ++ (file_text which ++ codes "\n")
-last_line (ReadFault which) events = codes "stopped: read fault in " ++ (file_text which ++ codes "\n")
-last_line WriteFault events = []
-last_line NoMemory events = []
+-- the line that tells for which variable there are too few codes, with its name
+abbrev pub codes_line : (event variable need : ℕ) → Text → Text
+codes_line event variable need name =
+    codes "stopped: codes full at event " ++ (decimal event ++ (codes ", variable " ++ (decimal variable ++ (codes " (" ++ (name ++ (codes "), need " ++ (decimal need ++ codes "\n")))))))
+
+-- and the one that tells at which row there are too few nodes
+abbrev pub nodes_line : (event subformula row : ℕ) → Text
+nodes_line event subformula row =
+    codes "stopped: nodes full at event " ++ (decimal event ++ (codes ", subformula " ++ (decimal subformula ++ (codes ", row " ++ (decimal row ++ codes "\n")))))
+
+-- the last line of a run that judged so many events, and whose variable of that end has this name
+abbrev pub last_line : End → ℕ → Option Text → Text
+last_line AllTrue events name = codes "events " ++ (decimal events ++ (codes " violations " ++ (decimal 0 ++ codes "\n")))
+last_line (Violated count) events name = codes "events " ++ (decimal events ++ (codes " violations " ++ (decimal count ++ codes "\n")))
+last_line Usage events name = codes "stopped: usage: dejavu SPEC LOG\n"
+last_line SpecTooLong events name = codes "stopped: specification longer than 1048576 bytes\n"
+last_line (Spec fault) events name = fault_line fault
+last_line (Names fault) events name = name_line fault
+last_line (Log fault) events name = log_line fault
+last_line NotBuilt events name = codes "stopped: not built\n"
+last_line (LogTooLong limit) events name = codes "stopped: log longer than " ++ (decimal limit ++ codes " bytes\n")
+last_line (CodesFull event variable need) events name = codes_line event variable need (unwrap_or name [])
+last_line (NodesFull event subformula row) events name = nodes_line event subformula row
+last_line (OpenFault which) events name = codes "stopped: cannot open " ++ (file_text which ++ codes "\n")
+last_line (ReadFault which) events name = codes "stopped: read fault in " ++ (file_text which ++ codes "\n")
+last_line WriteFault events name = []
+last_line NoMemory events name = []
 
 -- the specification has more bytes than it may have
 abbrev pub IsTooLong : Option Text → Type 0
@@ -151,9 +170,9 @@ Spells spec items = IsSomeAnd spec (λ text. (length text ≤ MAX_SPEC) × Spell
 abbrev pub HasNameFault : Option Text → NameFault → Type 0
 HasNameFault spec fault = (items : List Item) × Spells spec items × (first_fault items ≡ Some fault)
 
--- no property has a quantifier or a timed operator, once its macros are expanded
+-- no property has a timed operator, once its macros are expanded
 abbrev pub IsBuilt : List Item → Type 0
-IsBuilt items = (length (props_variables [] 0 items) ≡ 0) × (list_any (λ p. has_timed p.1) (expanded_props [] 0 items) ≡ false)
+IsBuilt items = list_any (λ p. has_timed p.1) (expanded_props [] 0 items) ≡ false
 
 abbrev pub IsNotBuilt : Option Text → Type 0
 IsNotBuilt spec = (items : List Item) × Spells spec items × (first_fault items ≡ None) × (¬ IsBuilt items)
@@ -164,101 +183,132 @@ pub record Accepts (spec : Option Text) (items : List Item) : Type 0 where
   pub clear : first_fault items ≡ None
   pub built : IsBuilt items
 
--- These events were judged: of their verdicts, by the definition of truth, so many are false, and the body is the lines of
--- these.
-pub record Judged (items : List Item) (log : List Event) (events violations : ℕ) (body : Text) : Type 0 where
+-- Codes and nodes sufficed for these events, and they were judged: of their verdicts, by the definition of truth, so many are
+-- false, and the body is the lines of these.
+pub record Judged (limits : Limits) (items : List Item) (log : List Event) (events violations : ℕ) (body : Text) : Type 0 where
   pub rows : List (List Bool)
   pub right : AreVerdicts log (properties items) rows
+  pub fits : AllFit limits items log
   pub counted : events ≡ length log
   pub false_ones : violations ≡ false_count rows
   pub written : body ≡ violation_lines 1 (names (properties items)) rows
 
--- all records of a log of at most so many bytes are events, and all were judged
-abbrev pub WholeLog : List Item → ℕ → Text → ℕ → ℕ → Text → Type 0
-WholeLog items limit all events violations body =
-    (length all ≤ limit) × ((records limit all).end ≡ log_records.Rest) × Judged items (records limit all).events events violations body
+-- all records of a log that isn't too long are events, and all were judged
+abbrev pub WholeLog : Limits → List Item → Text → ℕ → ℕ → Text → Type 0
+WholeLog limits items all events violations body =
+    (length all ≤ limits.log) × ((records limits.log all).end ≡ log_records.Rest) × Judged limits items (records limits.log all).events events violations body
+
+-- the events before one for which codes or nodes don't suffice were judged
+abbrev pub StoppedLog : Limits → List Item → Text → (event : ℕ) → event_end.End → ℕ → Text → Type 0
+StoppedLog limits items all event why events body =
+    (s : StopsAt limits items (records limits.log all).events event why) × (violations : ℕ) × Judged limits items s.log events violations body
 
 -- What is written before the last line of an end that the log leads to. A log whose read fails gave some bytes, and what it
 -- has not given is left unread.
-abbrev pub LogBody : End → List Item → ℕ → Text → (Text → Type 0) → ℕ → Text → Type 0
-LogBody AllTrue items limit all unread events body = WholeLog items limit all events 0 body
-LogBody (Violated count) items limit all unread events body = (0 < count) × WholeLog items limit all events count body
-LogBody (Log fault) items limit all unread events body =
-    IsFaultAt (records limit all).end fault × (violations : ℕ) × Judged items (records limit all).events events violations body
-LogBody (LogTooLong most) items limit all unread events body =
-    (most ≡ limit) × (limit < length all) × ((records limit all).end ≡ log_records.Rest)
-    × (violations : ℕ) × Judged items (records limit all).events events violations body
-LogBody (ReadFault file.Log) items limit all unread events body =
-    (given : Text) × (rest : Text) × (all ≡ given ++ rest) × unread rest × (length given ≤ limit)
-    × ((log_records.cut given false false).end ≡ log_records.Rest) × (violations : ℕ) × Judged items (log_records.cut given false false).events events violations body
-LogBody _ items limit all unread events body = ⊥
+abbrev pub LogBody : End → Limits → List Item → Text → (Text → Type 0) → ℕ → Text → Type 0
+LogBody AllTrue limits items all unread events body = WholeLog limits items all events 0 body
+LogBody (Violated count) limits items all unread events body = (0 < count) × WholeLog limits items all events count body
+LogBody (Log fault) limits items all unread events body =
+    IsFaultAt (records limits.log all).end fault × (violations : ℕ) × Judged limits items (records limits.log all).events events violations body
+LogBody (LogTooLong most) limits items all unread events body =
+    (most ≡ limits.log) × (limits.log < length all) × ((records limits.log all).end ≡ log_records.Rest)
+    × (violations : ℕ) × Judged limits items (records limits.log all).events events violations body
+LogBody (CodesFull event variable need) limits items all unread events body = StoppedLog limits items all event (event_end.CodesFull variable need) events body
+LogBody (NodesFull event subformula row) limits items all unread events body = StoppedLog limits items all event (event_end.NodesFull subformula row) events body
+LogBody (ReadFault file.Log) limits items all unread events body =
+    (given : Text) × (rest : Text) × (all ≡ given ++ rest) × unread rest × (length given ≤ limits.log)
+    × ((log_records.cut given false false).end ≡ log_records.Rest)
+    × (violations : ℕ) × Judged limits items (log_records.cut given false false).events events violations body
+LogBody _ limits items all unread events body = ⊥
 
 -- the specification is accepted, and its log leads to this end
-pub record Checked (end : End) (spec log : Option Text) (unread : Text → Type 0) (events : ℕ) (body : Text) : Type 0 where
+pub record Checked (limits : Limits) (end : End) (spec log : Option Text) (unread : Text → Type 0) (events : ℕ) (body : Text) : Type 0 where
   pub items : List Item
   pub accepted : Accepts spec items
-  pub log_body : IsSomeAnd log (λ all. LogBody end items MAX_LOG all unread events body)
+  pub log_body : IsSomeAnd log (λ all. LogBody end limits items all unread events body)
 
 -- what is written before the last line of an end that two words lead to
-abbrev pub IsBody : End → Option Text → Option Text → (Text → Type 0) → ℕ → Text → Type 0
-IsBody (OpenFault file.Spec) spec log unread events body = body ≡ []
-IsBody (ReadFault file.Spec) spec log unread events body = body ≡ []
-IsBody (OpenFault file.Log) spec log unread events body = (items : List Item) × Accepts spec items × (body ≡ [])
-IsBody SpecTooLong spec log unread events body = IsTooLong spec × (body ≡ [])
-IsBody (Spec fault) spec log unread events body = HasFault spec fault × (body ≡ [])
-IsBody (Names fault) spec log unread events body = HasNameFault spec fault × (body ≡ [])
-IsBody NotBuilt spec log unread events body = IsNotBuilt spec × (body ≡ [])
-IsBody end spec log unread events body = Checked end spec log unread events body
+abbrev pub IsBody : Limits → End → Option Text → Option Text → (Text → Type 0) → ℕ → Text → Type 0
+IsBody limits (OpenFault file.Spec) spec log unread events body = body ≡ []
+IsBody limits (ReadFault file.Spec) spec log unread events body = body ≡ []
+IsBody limits (OpenFault file.Log) spec log unread events body = (items : List Item) × Accepts spec items × (body ≡ [])
+IsBody limits SpecTooLong spec log unread events body = IsTooLong spec × (body ≡ [])
+IsBody limits (Spec fault) spec log unread events body = HasFault spec fault × (body ≡ [])
+IsBody limits (Names fault) spec log unread events body = HasNameFault spec fault × (body ≡ [])
+IsBody limits NotBuilt spec log unread events body = IsNotBuilt spec × (body ≡ [])
+IsBody limits end spec log unread events body = Checked limits end spec log unread events body
 
 -- the same for any words
-abbrev pub IsBodyFor : List (Text × Text) → List Text → End → (Text → Type 0) → ℕ → Text → Type 0
-IsBodyFor texts (spec ∷ log ∷ []) end unread events body = IsBody end (text_of texts spec) (text_of texts log) unread events body
-IsBodyFor texts words end unread events body = (end ≡ Usage) × (body ≡ [])
+abbrev pub IsBodyFor : Limits → List (Text × Text) → List Text → End → (Text → Type 0) → ℕ → Text → Type 0
+IsBodyFor limits texts (spec ∷ log ∷ []) end unread events body = IsBody limits end (text_of texts spec) (text_of texts log) unread events body
+IsBodyFor limits texts words end unread events body = (end ≡ Usage) × (body ≡ [])
+
+-- the variable whose codes are full has this name
+abbrev pub IsNamed : List (Text × Text) → List Text → End → Option Text → Type 0
+IsNamed texts (spec ∷ log ∷ []) (CodesFull event variable need) name = (items : List Item) × Spells (text_of texts spec) items × (name ≡ variable_name items variable)
+IsNamed texts words end name = ⊤
 
 -- all that is written at an end
-pub record IsAnswer (texts : List (Text × Text)) (words : List Text) (unread : Text → Type 0) (end : End) (bytes : Text) : Type 0 where
+pub record IsAnswer (limits : Limits) (texts : List (Text × Text)) (words : List Text) (unread : Text → Type 0) (end : End) (bytes : Text) : Type 0 where
   pub events : ℕ
   pub body : Text
-  pub reached : IsBodyFor texts words end unread events body
-  pub whole : bytes ≡ body ++ last_line end events
+  pub name : Option Text
+  pub reached : IsBodyFor limits texts words end unread events body
+  pub named : IsNamed texts words end name
+  pub whole : bytes ≡ body ++ last_line end events name
 
 -- where the bytes decide an end, that is the end, but for faults and want of memory
-abbrev pub IsExact : List (Text × Text) → List Text → End → Type 0
-IsExact texts words end = (due : End) (bytes : Text) → IsDecided due → IsAnswer texts words (λ _. ⊤) due bytes → IsDecided end → end ≡ due
+abbrev pub IsExact : Limits → List (Text × Text) → List Text → End → Type 0
+IsExact limits texts words end = (due : End) (bytes : Text) → IsDecided due → IsAnswer limits texts words (λ _. ⊤) due bytes → IsDecided end → end ≡ due
 
--- a front of the violations of events that stand at the front of the log's
-pub record IsFrontOfLines (items : List Item) (limit : ℕ) (all front : Text) : Type 0 where
+-- a front of the violations of events that stand at the front of the log's, and for which codes and nodes suffice
+pub record IsFrontOfLines (limits : Limits) (items : List Item) (all front : Text) : Type 0 where
   pub log : List Event
   pub later : List Event
   pub rows : List (List Bool)
   pub more : Text
-  pub first : (records limit all).events ≡ log ++ later
+  pub first : (records limits.log all).events ≡ log ++ later
+  pub fits : AllFit limits items log
   pub right : AreVerdicts log (properties items) rows
   pub written : front ++ more ≡ violation_lines 1 (names (properties items)) rows
 
 -- the same, where the specification is accepted
-pub record IsFrontOfReport (spec log : Option Text) (front : Text) : Type 0 where
+pub record IsFrontOfReport (limits : Limits) (spec log : Option Text) (front : Text) : Type 0 where
   pub items : List Item
   pub accepted : Accepts spec items
-  pub lines : IsSomeAnd log (λ all. IsFrontOfLines items MAX_LOG all front)
+  pub lines : IsSomeAnd log (λ all. IsFrontOfLines limits items all front)
 
-abbrev pub IsFrontOfLog : List (Text × Text) → List Text → Text → Type 0
-IsFrontOfLog texts (spec ∷ log ∷ []) front = IsFrontOfReport (text_of texts spec) (text_of texts log) front
-IsFrontOfLog texts words front = ⊥
+abbrev pub IsFrontOfLog : Limits → List (Text × Text) → List Text → Text → Type 0
+IsFrontOfLog limits texts (spec ∷ log ∷ []) front = IsFrontOfReport limits (text_of texts spec) (text_of texts log) front
+IsFrontOfLog limits texts words front = ⊥
 
 -- a front of what is written at an end that was reached with its cause
-pub record IsFrontOfAnswer (texts : List (Text × Text)) (words : List Text) (unread : Text → Type 0) (files_rose : Type 0) (front : Text) : Type 0 where
+pub record IsFrontOfAnswer (limits : Limits) (texts : List (Text × Text)) (words : List Text) (unread : Text → Type 0) (files_rose : Type 0) (front : Text) : Type 0 where
   pub end : End
   pub rest : Text
-  pub answer : IsAnswer texts words unread end (front ++ rest)
+  pub answer : IsAnswer limits texts words unread end (front ++ rest)
   pub cause : HasFaultCause files_rose ⊤ end
 
 -- a front of the lines, or of the whole answer that was reached
-abbrev pub IsFront : List (Text × Text) → List Text → (Text → Type 0) → Type 0 → Text → Type 0
-IsFront texts words unread files_rose front = IsFrontOfLog texts words front ⊎ IsFrontOfAnswer texts words unread files_rose front
+abbrev pub IsFront : Limits → List (Text × Text) → List Text → (Text → Type 0) → Type 0 → Text → Type 0
+IsFront limits texts words unread files_rose front = IsFrontOfLog limits texts words front ⊎ IsFrontOfAnswer limits texts words unread files_rose front
 
 -- what was written at an end, where the files tell their texts
-abbrev pub Writes : List (Text × Text) → List Text → (Text → Type 0) → Type 0 → Option Text → Option Text → End → Type 0
-Writes texts words unread files_rose old new WriteFault = (front : Text) × IsFront texts words unread files_rose front × Appends old new front
-Writes texts words unread files_rose old new NoMemory = (front : Text) × ((front ≡ []) ⊎ IsFront texts words unread files_rose front) × Appends old new front
-Writes texts words unread files_rose old new end = (bytes : Text) × IsAnswer texts words unread end bytes × Appends old new bytes
+abbrev pub Writes : Limits → List (Text × Text) → List Text → (Text → Type 0) → Type 0 → Option Text → Option Text → End → Type 0
+Writes limits texts words unread files_rose old new WriteFault = (front : Text) × IsFront limits texts words unread files_rose front × Appends old new front
+Writes limits texts words unread files_rose old new NoMemory = (front : Text) × ((front ≡ []) ⊎ IsFront limits texts words unread files_rose front) × Appends old new front
+Writes limits texts words unread files_rose old new end = (bytes : Text) × IsAnswer limits texts words unread end bytes × Appends old new bytes
+
+-- an end of a log that was judged whole, or want of memory
+abbrev pub IsWhole : End → Type 0
+IsWhole AllTrue = ⊤
+IsWhole (Violated count) = ⊤
+IsWhole NoMemory = ⊤
+IsWhole _ = ⊥
+
+-- the specification is accepted, and the log isn't too long and has no fault; codes and nodes suffice at each event
+abbrev pub IsClear : Limits → List (Text × Text) → List Text → Type 0
+IsClear limits texts (spec ∷ log ∷ []) =
+    (items : List Item) × Accepts (text_of texts spec) items
+    × IsSomeAnd (text_of texts log) (λ all. (length all ≤ limits.log) × ((records limits.log all).end ≡ log_records.Rest) × AllFit limits items (records limits.log all).events)
+IsClear limits texts words = ⊥

@@ -2,7 +2,7 @@
 use Rattle.std.specs.Prelude.{◌≡◌, ⊤, List, [], ◌∷◌, ◌++◌, Bool, true, Option, Some, None, IsSomeAnd}
 use Rattle.qtl_syntax.specs.Tree.{Text}
 use Rattle.monitor_run.specs.declared.end.End.{End}
-use Rattle.monitor_run.specs.declared.end.End.TheVariants.{AllTrue, Violated, Log, LogTooLong, OpenFault, ReadFault, WriteFault, NoMemory}
+use Rattle.monitor_run.specs.declared.end.End.TheVariants.{AllTrue, Violated, Log, LogTooLong, CodesFull, NodesFull, OpenFault, ReadFault, WriteFault, NoMemory}
 use Rattle.monitor_run.specs.declared.end.Which.TheVariants as file
 
 -- a list that is told has grown by these
@@ -59,6 +59,8 @@ IsReadingEnd AllTrue = ⊤
 IsReadingEnd (Violated count) = ⊤
 IsReadingEnd (Log fault) = ⊤
 IsReadingEnd (LogTooLong limit) = ⊤
+IsReadingEnd (CodesFull event variable need) = ⊤
+IsReadingEnd (NodesFull event subformula row) = ⊤
 IsReadingEnd (ReadFault file.Log) = ⊤
 IsReadingEnd WriteFault = ⊤
 IsReadingEnd NoMemory = ⊤

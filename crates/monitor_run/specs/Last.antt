@@ -14,7 +14,7 @@ Sends reached bytes old new rose end =
 
 -- What was held back and the last line are written. Where there is no memory there is no last line, and where a write has
 -- failed nothing more is written.
-abbrev pub Finishes : End → ℕ → Text → Option Text → Option Text → Type 0 → End → Type 0
-Finishes WriteFault events held old new rose end = (end ≡ WriteFault) × Appends old new []
-Finishes NoMemory events held old new rose end = (end ≡ NoMemory) × AppendsFront old new held
-Finishes reached events held old new rose end = Sends reached (held ++ last_line reached events) old new rose end
+abbrev pub Finishes : End → ℕ → Option Text → Text → Option Text → Option Text → Type 0 → End → Type 0
+Finishes WriteFault events name held old new rose end = (end ≡ WriteFault) × Appends old new []
+Finishes NoMemory events name held old new rose end = (end ≡ NoMemory) × AppendsFront old new held
+Finishes reached events name held old new rose end = Sends reached (held ++ last_line reached events name) old new rose end

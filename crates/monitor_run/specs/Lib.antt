@@ -1,10 +1,14 @@
 pub mod Answer
+pub mod Cost
 pub mod Files
+pub mod Judging
 pub mod Last
+pub mod Naming
 pub mod Passing
 pub mod Reading
 pub mod Records
 pub mod Report
 pub mod Specification
 pub mod Standing
+pub mod Stops
 pub mod Verdicts

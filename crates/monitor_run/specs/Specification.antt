@@ -15,6 +15,7 @@ use Rattle.monitor_run.specs.Standing.{StandsAt}
 use Rattle.monitor_run.specs.declared.TheConstants.{MAX_SPEC}
 use Rattle.monitor_run.specs.declared.judge.Judge.{Judge}
 use Rattle.monitor_run.specs.declared.end.End.{End}
+use Rattle.monitor_run.specs.declared.limits.Limits.{Limits}
 use Rattle.monitor_run.specs.declared.end.End.TheVariants.{SpecTooLong, Spec, Names, NotBuilt, Log, OpenFault, ReadFault, NoMemory}
 use Rattle.monitor_run.specs.declared.end.Which.TheVariants as file
 
@@ -36,12 +37,12 @@ end_of_log log_fault.NoMemory = NoMemory
 end_of_log fault = Log fault
 
 -- the text spells items that are accepted, and the judge is that of their properties before the first event
-pub record IsSpelled (text : Text) (judge : Judge) : Type 0 where
+pub record IsSpelled (limits : Limits) (text : Text) (judge : Judge) : Type 0 where
   pub items : List Item
   pub spelled : SpellsWithin text items
   pub clear : first_fault items ≡ None
   pub built : IsBuilt items
-  pub stands : StandsAt items [] [] judge
+  pub stands : StandsAt limits items [] [] judge
 
 -- it has a fault, or spells items whose names have one or that are not built, or there was no memory
 abbrev pub IsUnspelled : Text → End → Type 0
@@ -52,9 +53,9 @@ IsUnspelled text NoMemory = ⊤
 IsUnspelled text _ = ⊥
 
 -- the judge of the specification of this name
-pub record SpecRead (texts : Option (List (Text × Text))) (spec : Text) (judge : Judge) : Type 0 where
+pub record SpecRead (limits : Limits) (texts : Option (List (Text × Text))) (spec : Text) (judge : Judge) : Type 0 where
   pub items : List Item
-  pub stands : StandsAt items [] [] judge
+  pub stands : StandsAt limits items [] [] judge
   pub accepted : IfSome texts (λ files. Accepts (text_of files spec) items)
 
 -- why a specification gave no judge

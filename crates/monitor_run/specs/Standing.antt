@@ -5,27 +5,49 @@ use Rattle.qtl_truth.specs.declared.event.Event.{Event}
 use Rattle.wellformed.specs.Kept.{AreKept}
 use Rattle.subformulas.specs.Table as table
 use Rattle.subformulas.specs.Unfolded.{props_at}
-use Rattle.untimed_monitor.specs.Stands as monitor
+use Rattle.monitor_step.specs.Monitor as monitor
+use Rattle.monitor_step.specs.Stands.{AreTexts}
 use Rattle.log_reader.specs.Records.{Rest, cut}
 use Rattle.log_reader.specs.Standing.{Reading, Stands}
 use Rattle.monitor_run.specs.Passing.{Passes}
 use Rattle.monitor_run.specs.Report.{violation_lines}
 use Rattle.monitor_run.specs.Verdicts.{properties, names, AreVerdicts, false_count}
+use Rattle.monitor_run.specs.Stops.{AllFit, table_in, variables_in}
 use Rattle.monitor_run.specs.declared.judge.Judge.{Judge}
+use Rattle.monitor_run.specs.declared.limits.Limits.{Limits}
 
 -- the names of the monitor's properties
 abbrev pub names_in : monitor.State → List Text
 names_in m = map (λ q. q.name) m.plan.props
 
+-- and the verdicts on them at the last event
+abbrev pub row_of : monitor.State → List Bool
+row_of m = map (λ q. monitor.verdict_at m q.root) m.plan.props
+
 -- the plan of the monitor is that of the items' properties
 pub record IsPlanOf (items : List Item) (plan : table.Table) : Type 0 where
   pub sound : table.IsSound plan
-  pub kept : (log : List Event) → AreKept log [] [] items (props_at plan.subs plan.props)
+  pub variables : plan.variables ≡ variables_in items
+  pub subs : plan.subs ≡ table_in items
+  pub kept : (log : List Event) (nu : List Text) → length plan.variables ≤ length nu → AreKept log nu [] items (props_at plan.subs plan.props)
 
--- the monitor stands for the log, and the verdicts of its events are counted
-pub record StandsAt (items : List Item) (log : List Event) (rows : List (List Bool)) (judge : Judge) : Type 0 where
+-- the sizes of the monitor are within the limits
+pub record HasSizes (limits : Limits) (m : monitor.State) : Type 0 where
+  pub bits : m.bits ≡ limits.bits
+  pub nodes : m.shelf.table.room ≡ limits.nodes
+  pub cache : m.shelf.memo.entries ≡ limits.cache
+
+-- the monitor stands for these events, however the log goes on; their arguments are texts
+pub record StandsFor (m : monitor.State) (log : List Event) : Type 0 where
+  pub texts : AreTexts log
+  pub stands : (later : List Event) → AreTexts (log ++ later) → monitor.MonitorStands m (log ++ later) (length log)
+
+-- the monitor stands for the log, at each of whose events codes and nodes sufficed, and the verdicts of its events are counted
+pub record StandsAt (limits : Limits) (items : List Item) (log : List Event) (rows : List (List Bool)) (judge : Judge) : Type 0 where
   pub plan : IsPlanOf items judge.monitor.plan
-  pub stands : monitor.StandsFor judge.monitor log
+  pub sizes : HasSizes limits judge.monitor
+  pub stands : StandsFor judge.monitor log
+  pub fits : AllFit limits items log
   pub right : AreVerdicts log (properties items) rows
   pub events : judge.events ≡ length log
   pub violations : judge.violations ≡ false_count rows
@@ -55,16 +77,16 @@ pub record IsFedWithin (most : ℕ) (r : Reading) : Type 0 where
 
 -- Of a log these bytes were given, at most so many; of their events some were judged, and the violations of these were written
 -- or are held back.
-pub record Walked (items : List Item) (limit : ℕ) (all : Text) (left sent0 sent1 : Option Text) (given : Text) (ended : Bool) (judge : Judge) (r : Reading) (held : Text) : Type 0 where
+pub record Walked (limits : Limits) (items : List Item) (all : Text) (left sent0 sent1 : Option Text) (given : Text) (ended : Bool) (judge : Judge) (r : Reading) (held : Text) : Type 0 where
   pub rest : Text
   pub split : all ≡ given ++ rest
   pub remains : left ≡ Some rest
-  pub short : length given ≤ limit
+  pub short : length given ≤ limits.log
   pub closed : ended ≡ true → rest ≡ []
   pub log : List Event
   pub rows : List (List Bool)
   pub fed : Fed given ended log r
-  pub stands : StandsAt items log rows judge
+  pub stands : StandsAt limits items log rows judge
   pub passed : Passes sent0 sent1 [] held (violation_lines 1 (names (properties items)) rows)
 
 -- the records of the bytes are these events, and no fault
@@ -72,6 +94,6 @@ abbrev pub AreAll : Text → Bool → List Event → Type 0
 AreAll given ended log = cut given false ended ≡ record { events = log; end = Rest }
 
 -- all events of the bytes were judged
-pub record WalkedAll (items : List Item) (limit : ℕ) (all : Text) (left sent0 sent1 : Option Text) (given : Text) (ended : Bool) (judge : Judge) (r : Reading) (held : Text) : Type 0 where
-  pub walked : Walked items limit all left sent0 sent1 given ended judge r held
+pub record WalkedAll (limits : Limits) (items : List Item) (all : Text) (left sent0 sent1 : Option Text) (given : Text) (ended : Bool) (judge : Judge) (r : Reading) (held : Text) : Type 0 where
+  pub walked : Walked limits items all left sent0 sent1 given ended judge r held
   pub done : AreAll given ended walked.log

@@ -1,25 +1,33 @@
 //! The judge of the properties: it takes the events one by one, keeps none, and writes a line for each false verdict.
-ghost use Rattle.std.specs.Prelude.{◌≡◌, ◌+◌, ◌*◌, ◌^◌, ◌<◌, ◌≤◌, ◌∷◌, ◌++◌, List, [], OnOk, OnErr, IfOk};
-ghost use Rattle.mon_base.specs.Causes.{HasCause};
+ghost use Rattle.std.specs.Prelude.{◌≡◌, ◌+◌, ◌*◌, ◌^◌, ◌<◌, ◌≤◌, ◌++◌, List, length, true, IfErr, OnOk, OnErr, IfOk};
+ghost use Rattle.std.specs.List.{AllByRecursion};
+ghost use Rattle.bdd_ops.specs.Shelf.{IsLarge};
+ghost use Rattle.mon_base.specs.Causes.{HasCause, Rose};
 ghost use Rattle.mon_base.specs.Told.{AppendsFront};
+ghost use Rattle.monitor_step.specs.Monitor.{step_bound};
+ghost use Rattle.qtl_truth.specs.Truth.{IsText};
 ghost use Rattle.qtl_truth.specs.declared.event.Event.{Event as TheEvent};
-ghost use Rattle.untimed_monitor.specs.Stands.{StandsFor, row_of};
+ghost use Rattle.monitor_run.specs.Answer.{HasFaultCause};
+ghost use Rattle.monitor_run.specs.Files.{IsReadingEnd};
+ghost use Rattle.monitor_run.specs.Judging.{IsReady, Judges, KeepsPlan, WritesEvent, end_of_step};
 ghost use Rattle.monitor_run.specs.Passing.{Passes};
 ghost use Rattle.monitor_run.specs.Report.{event_lines, verdict_text, violation_line};
-ghost use Rattle.monitor_run.specs.Standing.{names_in};
+ghost use Rattle.monitor_run.specs.Standing.{StandsFor, names_in, row_of};
 ghost use Rattle.monitor_run.specs.Verdicts.{false_in};
 
+use crate::end::End;
 use crate::output::Output;
 use itoa::Buffer;
-use mon_base::{Failed, Sink};
+use mon_base::{Failed, Sink, Steps};
+use monitor_step::{Monitor, StepEnd};
 use qtl_syntax::Text;
 use qtl_truth::Event;
-use untimed_monitor::UntimedMonitor;
+use std::sync::ledger::Ledger;
 
 /// The monitor of the properties, and what was counted so far.
 #[derive(Drop)]
 pub struct Judge {
-    pub monitor: UntimedMonitor,
+    pub monitor: Monitor,
     pub events: u64,
     pub violations: u64,
 }
@@ -64,8 +72,10 @@ fn put_verdicts<W: Sink>(
     output: &mut Output,
     out: &mut W,
     event: u64,
-    monitor: &UntimedMonitor,
+    monitor: &Monitor,
 ) -> Result<u64, Failed>
+    requires live { monitor.now.live ≡ true }
+    requires some { 1 ≤ monitor.now.events }
     ensures ok { OnOk result (Passes (W.written out.old) (W.written out.new) output.old output.new (event_lines event (names_in monitor.now) (row_of monitor.now))) }
     ensures count { IfOk result (λ count. count ≡ false_in (row_of monitor.now)) }
     ensures few { IfOk result (λ count. count ≤ 4096) }
@@ -86,27 +96,70 @@ fn put_verdicts<W: Sink>(
     Ok(count)
 }
 
-/// Judges the next event, and writes its violations.
-pub fn judge_event<W: Sink>(
+/// The end of a run at this event, which can't be judged.
+fn stop(event: u64, end: StepEnd) -> End
+    ensures { result ≡ end_of_step event end }
+{
+    match end {
+        StepEnd::CodesFull { variable, need } => End::CodesFull {
+            event,
+            variable,
+            need,
+        },
+        StepEnd::NodesFull { subformula, row } => End::NodesFull {
+            event,
+            subformula,
+            row,
+        },
+        StepEnd::NoMemory => End::NoMemory,
+    }
+}
+
+/// A law: bytes are below 256.
+fn are_bytes(bytes: &[u8])
+    ensures { IsText bytes.now }
+{}
+
+/// A law: texts are lists of bytes. The loop has no effect.
+fn are_texts(texts: &[Text])
+    ensures { AllByRecursion IsText texts.now }
+{
+    for text in texts {
+        are_bytes(text.bytes());
+    }
+}
+
+/// Judges the next event, and writes its violations. After an error the judge takes no event more.
+pub fn judge_event<W: Sink, L: Ledger>(
     judge: &mut Judge,
     event: &Event,
     output: &mut Output,
     out: &mut W,
-) -> Result<(), Failed>
+    steps: &mut Steps<L>,
+) -> Result<(), End>
+    requires ready { IsReady judge.old }
     requires few { judge.old.events < 2 ^ 48 }
-    requires fewer { judge.old.violations ≤ 4096 * judge.old.events }
-    ensures plan { judge.new.monitor.plan ≡ judge.old.monitor.plan }
-    ensures stands { (log : List TheEvent) → StandsFor judge.old.monitor log → StandsFor judge.new.monitor (log ++ event.now ∷ []) }
-    ensures events { judge.new.events ≡ judge.old.events + 1 }
-    ensures violations { OnOk result (judge.new.violations ≡ judge.old.violations + false_in (row_of judge.new.monitor)) }
-    ensures still_fewer { judge.new.violations ≤ 4096 * judge.new.events }
-    ensures ok { OnOk result (Passes (W.written out.old) (W.written out.new) output.old output.new (event_lines judge.new.events (names_in judge.new.monitor) (row_of judge.new.monitor))) }
-    ensures err { OnErr result (AppendsFront (W.written out.old) (W.written out.new) (output.old ++ event_lines judge.new.events (names_in judge.new.monitor) (row_of judge.new.monitor))) }
-    ensures cause { HasCause (W.faults out.old) (W.faults out.new) result }
+    requires time { event.now.time ≡ 0 }
+    ensures plan { KeepsPlan judge.old judge.new }
+    ensures ready { OnOk result (IsReady judge.new) }
+    ensures judged { (log : List TheEvent) → judge.old.events ≡ length log → StandsFor judge.old.monitor log → Judges judge.old judge.new log event.now result }
+    ensures written { WritesEvent judge.old judge.new (W.written out.old) (W.written out.new) output.old output.new result }
+    ensures cause { IfErr result (λ end. HasFaultCause ⊥ (Rose (W.faults out.old) (W.faults out.new)) end) }
+    ensures reading { IfErr result (λ end. IsReadingEnd end) }
+    ensures out_later { W.faults out.old ≤ W.faults out.new }
+    ensures cost { IsLarge judge.old.monitor.shelf → steps.new ≤ steps.old + step_bound judge.old.monitor }
 {
-    judge.monitor.step(event);
+    are_texts(event.args.as_slice());
+    match judge.monitor.step(event, steps) {
+        Ok(()) => {}
+        Err(end) => return Err(stop(judge.events + 1, end)),
+    }
     judge.events += 1;
-    let count = put_verdicts(output, out, judge.events, &judge.monitor)?;
-    judge.violations += count;
-    Ok(())
+    match put_verdicts(output, out, judge.events, &judge.monitor) {
+        Ok(count) => {
+            judge.violations += count;
+            Ok(())
+        }
+        Err(_) => Err(End::WriteFault),
+    }
 }

@@ -1,19 +1,19 @@
 //! The last line of a run.
-ghost use Rattle.std.specs.Prelude.{◌≡◌, ◌≤◌, ◌++◌, OnOk, OnErr, codes, decimal};
+ghost use Rattle.std.specs.Prelude.{◌≡◌, ◌≤◌, ◌++◌, [], unwrap_or, None, OnOk, OnErr, codes, decimal};
 ghost use Rattle.mon_base.specs.Causes.{Rose, HasCause};
 ghost use Rattle.mon_base.specs.Told.{AppendsFront};
 ghost use Rattle.std.specs.Io.KnownBytes.{Appends};
-ghost use Rattle.monitor_run.specs.Answer.{at_node, at_record, fault_line, file_text, in_item, last_line, log_line, name_line};
+ghost use Rattle.monitor_run.specs.Answer.{at_node, at_record, codes_line, fault_line, file_text, in_item, last_line, log_line, name_line, nodes_line};
 ghost use Rattle.monitor_run.specs.Last.{Finishes};
 ghost use Rattle.monitor_run.specs.Passing.{Passes};
 
 use crate::end::{End, Which};
-use crate::log::Reached;
 use crate::output::Output;
+use crate::session::Reached;
 use itoa::Buffer;
 use log_reader::LogFault;
 use mon_base::{Failed, Sink};
-use qtl_syntax::SpecFault;
+use qtl_syntax::{SpecFault, Text};
 use wellformed::NameFault;
 
 /// Holds back the line that tells how many events and violations there were.
@@ -23,8 +23,8 @@ fn put_counts<W: Sink>(
     events: u64,
     violations: u64,
 ) -> Result<(), Failed>
-    ensures ok { OnOk result (Passes (W.written out.old) (W.written out.new) output.old output.new (last_line (End.Violated violations) events)) }
-    ensures err { OnErr result (AppendsFront (W.written out.old) (W.written out.new) (output.old ++ last_line (End.Violated violations) events)) }
+    ensures ok { OnOk result (Passes (W.written out.old) (W.written out.new) output.old output.new (last_line (End.Violated violations) events None)) }
+    ensures err { OnErr result (AppendsFront (W.written out.old) (W.written out.new) (output.old ++ last_line (End.Violated violations) events None)) }
     ensures cause { HasCause (W.faults out.old) (W.faults out.new) result }
 {
     let mut first = Buffer::new();
@@ -294,10 +294,83 @@ fn put_file_fault<W: Sink>(
     put_line(output, out, head, name_of(which), b"\n")
 }
 
-/// Holds back the last line of a run that ends so after these events.
-fn put_last<W: Sink>(output: &mut Output, out: &mut W, end: End, events: u64) -> Result<(), Failed>
-    ensures ok { OnOk result (Passes (W.written out.old) (W.written out.new) output.old output.new (last_line end events)) }
-    ensures err { OnErr result (AppendsFront (W.written out.old) (W.written out.new) (output.old ++ last_line end events)) }
+/// Holds back the line that tells for which variable there are too few codes.
+fn put_codes_full<W: Sink>(
+    output: &mut Output,
+    out: &mut W,
+    event: u64,
+    variable: u32,
+    need: u32,
+    name: &[u8],
+) -> Result<(), Failed>
+    ensures ok { OnOk result (Passes (W.written out.old) (W.written out.new) output.old output.new (codes_line event variable need name.now)) }
+    ensures err { OnErr result (AppendsFront (W.written out.old) (W.written out.new) (output.old ++ codes_line event variable need name.now)) }
+    ensures cause { HasCause (W.faults out.old) (W.faults out.new) result }
+{
+    let mut first = Buffer::new();
+    let mut second = Buffer::new();
+    let mut third = Buffer::new();
+    let parts = [
+        b"stopped: codes full at event ".as_slice(),
+        first.format(event).as_bytes(),
+        b", variable ",
+        second.format(variable).as_bytes(),
+        b" (",
+        name,
+        b"), need ",
+        third.format(need).as_bytes(),
+        b"\n",
+    ];
+    output.put_parts(out, &parts)
+}
+
+/// Holds back the line that tells at which row there are too few nodes.
+fn put_nodes_full<W: Sink>(
+    output: &mut Output,
+    out: &mut W,
+    event: u64,
+    subformula: u32,
+    row: u32,
+) -> Result<(), Failed>
+    ensures ok { OnOk result (Passes (W.written out.old) (W.written out.new) output.old output.new (nodes_line event subformula row)) }
+    ensures err { OnErr result (AppendsFront (W.written out.old) (W.written out.new) (output.old ++ nodes_line event subformula row)) }
+    ensures cause { HasCause (W.faults out.old) (W.faults out.new) result }
+{
+    let mut first = Buffer::new();
+    let mut second = Buffer::new();
+    let mut third = Buffer::new();
+    let parts = [
+        b"stopped: nodes full at event ".as_slice(),
+        first.format(event).as_bytes(),
+        b", subformula ",
+        second.format(subformula).as_bytes(),
+        b", row ",
+        third.format(row).as_bytes(),
+        b"\n",
+    ];
+    output.put_parts(out, &parts)
+}
+
+/// The bytes of a name, none where there is no name.
+fn bytes_of(name: &Option<Text>) -> &[u8]
+    ensures { result.now ≡ unwrap_or name.now [] }
+{
+    match name {
+        Some(text) => text.bytes(),
+        None => b"",
+    }
+}
+
+/// Holds back the last line of a run that ends so after these events. The name is that of the variable whose codes are full.
+fn put_last<W: Sink>(
+    output: &mut Output,
+    out: &mut W,
+    end: End,
+    events: u64,
+    name: &Option<Text>,
+) -> Result<(), Failed>
+    ensures ok { OnOk result (Passes (W.written out.old) (W.written out.new) output.old output.new (last_line end events name.now)) }
+    ensures err { OnErr result (AppendsFront (W.written out.old) (W.written out.new) (output.old ++ last_line end events name.now)) }
     ensures cause { HasCause (W.faults out.old) (W.faults out.new) result }
 {
     match end {
@@ -318,6 +391,16 @@ fn put_last<W: Sink>(output: &mut Output, out: &mut W, end: End, events: u64) ->
                 b" bytes\n",
             )
         }
+        End::CodesFull {
+            event,
+            variable,
+            need,
+        } => put_codes_full(output, out, event, variable, need, bytes_of(name)),
+        End::NodesFull {
+            event,
+            subformula,
+            row,
+        } => put_nodes_full(output, out, event, subformula, row),
         End::OpenFault { which } => put_file_fault(output, out, b"stopped: cannot open ", which),
         End::ReadFault { which } => put_file_fault(output, out, b"stopped: read fault in ", which),
         End::WriteFault => output.put(out, b""),
@@ -326,19 +409,19 @@ fn put_last<W: Sink>(output: &mut Output, out: &mut W, end: End, events: u64) ->
 }
 
 /// Writes the last line, and all that was held back before it.
-fn send_last<W: Sink>(output: &mut Output, out: &mut W, end: End, events: u64) -> Result<(), Failed>
-    ensures ok { OnOk result (Appends (W.written out.old) (W.written out.new) (output.old ++ last_line end events)) }
-    ensures err { OnErr result (AppendsFront (W.written out.old) (W.written out.new) (output.old ++ last_line end events)) }
+fn send_last<W: Sink>(output: &mut Output, out: &mut W, reached: &Reached) -> Result<(), Failed>
+    ensures ok { OnOk result (Appends (W.written out.old) (W.written out.new) (output.old ++ last_line reached.now.end reached.now.events reached.now.name)) }
+    ensures err { OnErr result (AppendsFront (W.written out.old) (W.written out.new) (output.old ++ last_line reached.now.end reached.now.events reached.now.name)) }
     ensures cause { HasCause (W.faults out.old) (W.faults out.new) result }
 {
-    put_last(output, out, end, events)?;
+    put_last(output, out, reached.end, reached.events, &reached.name)?;
     output.flush(out)?;
     Ok(())
 }
 
 /// Writes what may still be written, and says how the run ends then.
 pub fn finish<W: Sink>(output: &mut Output, out: &mut W, reached: Reached) -> End
-    ensures bytes { Finishes reached.end reached.events output.old (W.written out.old) (W.written out.new) (Rose (W.faults out.old) (W.faults out.new)) result }
+    ensures bytes { Finishes reached.end reached.events reached.name output.old (W.written out.old) (W.written out.new) (Rose (W.faults out.old) (W.faults out.new)) result }
     ensures later { W.faults out.old ≤ W.faults out.new }
 {
     match reached.end {
@@ -348,7 +431,7 @@ pub fn finish<W: Sink>(output: &mut Output, out: &mut W, reached: Reached) -> En
             let _sent = output.flush(out);
             End::NoMemory
         }
-        _ => match send_last(output, out, reached.end, reached.events) {
+        _ => match send_last(output, out, &reached) {
             Ok(()) => reached.end,
             Err(_) => End::WriteFault,
         },

@@ -4,6 +4,7 @@
 mod end;
 mod judge;
 mod last;
+mod limits;
 mod log;
 mod output;
 mod piece;
@@ -12,13 +13,11 @@ mod specification;
 mod top;
 
 pub use end::{End, Outcome, Which};
-pub use top::run;
+pub use limits::Limits;
+pub use top::{run, run_within};
 
 /// How many bytes a specification has at most.
 pub const MAX_SPEC: usize = 1_048_576;
-
-/// How many bytes of a log are taken at most.
-pub const MAX_LOG: u64 = 281_474_976_710_656;
 
 #[cfg(test)]
 mod tests;

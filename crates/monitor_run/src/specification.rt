@@ -3,17 +3,20 @@ ghost use Rattle.std.specs.Prelude.{◌≡◌, ◌+◌, ◌^◌, ◌<◌, ◌≤
 ghost use Rattle.std.specs.Io.KnownBytes.{Consumes, IsAtEnd};
 ghost use Rattle.mon_base.specs.Causes.{Rose};
 ghost use Rattle.monitor_run.specs.Files.{Gained, HurtsOne, OpensOne, StayTold};
+ghost use Rattle.monitor_run.specs.Judging.{IsReady};
 ghost use Rattle.monitor_run.specs.Specification.{SpecIs, SpecRead, SpecRefused, IsSpelled, IsUnspelled};
+ghost use Rattle.monitor_run.specs.Stops.{AreLawful};
 
 use crate::MAX_SPEC;
 use crate::end::{End, Which};
 use crate::judge::Judge;
+use crate::limits::Limits;
 use mon_base::{Files, NoMemory, OpenEnd, Source};
+use monitor_step::{Monitor, Sizes};
 use qtl_syntax::parse;
 use std::alloc::Global;
 use subformulas::make_plan;
-use untimed_monitor::{UntimedMonitor, is_plain, plain_plans};
-use wellformed::{check, short_texts_have_few_nodes};
+use wellformed::{check, short_texts_have_few_nodes, short_texts_have_few_terms};
 
 /// A read asks for so many bytes.
 const PIECE: usize = 65_536;
@@ -98,10 +101,12 @@ fn read_spec<F: Files>(alloc: Global, name: &str, files: &mut F) -> Result<Vec<u
 }
 
 /// The judge of the properties that the text spells, which are to be accepted.
-pub fn judge_in(alloc: Global, text: &[u8]) -> Result<Judge, End>
+pub fn judge_in(alloc: Global, text: &[u8], limits: Limits) -> Result<Judge, End>
+    requires lawful { AreLawful limits }
     requires short { length text.now ≤ 1048576 }
-    ensures ok { IfOk result (λ judge. IsSpelled text.now judge) }
-    ensures fresh { IfOk result (λ judge. (judge.events ≡ 0) × (judge.violations ≡ 0)) }
+    ensures ok { IfOk result (λ judge. IsSpelled limits text.now judge) }
+    ensures fresh { IfOk result (λ judge. judge.events ≡ 0) }
+    ensures ready { IfOk result IsReady }
     ensures err { IfErr result (λ end. IsUnspelled text.now end) }
 {
     let spec = match parse(alloc, text) {
@@ -118,14 +123,19 @@ pub fn judge_in(alloc: Global, text: &[u8]) -> Result<Judge, End>
         Ok(plan) => plan,
         Err(_) => return Err(End::NoMemory),
     };
-    // A law: the monitor takes a plan exactly where the specification has no quantifier and no timed operator.
-    plain_plans();
-    if !is_plain(&plan) {
+    // A law, for a condition of `Monitor::open`.
+    short_texts_have_few_terms();
+    if plan.is_timed() {
         return Err(End::NotBuilt);
     }
+    let sizes = Sizes {
+        bits: limits.bits,
+        nodes: limits.nodes,
+        cache: limits.cache,
+    };
     // A law, for what holds of each plan.
     let _rows = plan.count();
-    match UntimedMonitor::open(alloc, plan) {
+    match Monitor::open(alloc, plan, sizes) {
         Ok(monitor) => Ok(Judge {
             monitor,
             events: 0,
@@ -136,9 +146,16 @@ pub fn judge_in(alloc: Global, text: &[u8]) -> Result<Judge, End>
 }
 
 /// The judge of the specification file of this name.
-pub fn read_specification<F: Files>(alloc: Global, name: &str, files: &mut F) -> Result<Judge, End>
-    ensures ok { IfOk result (λ judge. SpecRead (F.texts files.old) name.now judge) }
-    ensures fresh { IfOk result (λ judge. (judge.events ≡ 0) × (judge.violations ≡ 0)) }
+pub fn read_specification<F: Files>(
+    alloc: Global,
+    name: &str,
+    files: &mut F,
+    limits: Limits,
+) -> Result<Judge, End>
+    requires lawful { AreLawful limits }
+    ensures ok { IfOk result (λ judge. SpecRead limits (F.texts files.old) name.now judge) }
+    ensures fresh { IfOk result (λ judge. judge.events ≡ 0) }
+    ensures ready { IfOk result IsReady }
     ensures err { IfErr result (λ end. SpecRefused (F.texts files.old) name.now (Rose (F.faults files.old) (F.faults files.new)) end) }
     ensures opened { IfOk result (λ _. Gained (F.opened files.old) (F.opened files.new) (name.now ∷ [])) }
     ensures asked { IfErr result (λ end. OpensOne name.now end (F.opened files.old) (F.opened files.new)) }
@@ -153,5 +170,5 @@ pub fn read_specification<F: Files>(alloc: Global, name: &str, files: &mut F) ->
         Ok(text) => text,
         Err(end) => return Err(end),
     };
-    judge_in(alloc, text.as_slice())
+    judge_in(alloc, text.as_slice(), limits)
 }

@@ -1,13 +1,11 @@
-//! Runs over memory, and one of the reading of a log with a small limit.
-ghost use Rattle.std.specs.Prelude.{◌≡◌, ◌^◌, ◌≤◌, ◌<◌, All, IfOk};
+//! Runs over memory.
+ghost use Rattle.std.specs.Prelude.{◌≡◌, ◌≤◌, ◌<◌, All, IfOk};
+ghost use Rattle.monitor_run.specs.Stops.{AreLawful};
 
 use crate::end::{End, Outcome};
-use crate::log::read_log;
-use crate::output::Output;
-use crate::run;
-use crate::specification::{judge_in, read_room};
-use log_reader::LogReader;
-use mon_base::{MemFile, MemFiles, MemSink, MemSource, NoMemory, Steps};
+use crate::limits::Limits;
+use crate::{run, run_within};
+use mon_base::{MemFile, MemFiles, MemSink, NoMemory, Steps};
 use std::alloc::Global;
 use std::marker::Brand;
 use std::sync::ledger::{Blank, Ledger};
@@ -62,7 +60,62 @@ fn files_of(alloc: Global, spec: MemFile, log: MemFile) -> Result<MemFiles, NoMe
     Ok(MemFiles::new(alloc, files))
 }
 
+/// Bits of a code, nodes, and bytes of the log.
+type Size = (u8, u32, u64);
+
+/// Sizes that suffice where a test says nothing else.
+const AMPLE: Size = (8, 1_000, 1_000_000);
+
+/// The limits of these sizes; the usual ones where they aren't lawful.
+fn limits_of(size: Size) -> Limits
+    ensures { AreLawful result }
+{
+    let (bits, nodes, log) = size;
+    if bits < 1 || bits > 20 || nodes < 2 || nodes > 2_000 || log > 1_000_000_000 {
+        return Limits::usual();
+    }
+    Limits {
+        bits,
+        nodes,
+        cache: 4_000,
+        log,
+    }
+}
+
 fn run_in<L: Ledger>(
+    alloc: Global,
+    limits: Limits,
+    words: &[String],
+    files: &mut MemFiles,
+    out: &mut MemSink,
+    blank: Blank,
+) -> Outcome
+    requires lawful { AreLawful limits }
+    requires name { blank.name ≡ L.name }
+    requires parts { blank.parts ≡ L.parts }
+    requires some { 0 < L.parts }
+{
+    let mut steps = Steps::<L>::new(blank);
+    run_within(alloc, limits, words, files, out, &mut steps)
+}
+
+/// The outcome of a run of these sizes over these files.
+fn run_over(
+    alloc: Global,
+    size: Size,
+    words: &[&str],
+    files: &mut MemFiles,
+    out: &mut MemSink,
+) -> Result<Outcome, NoMemory> {
+    let mut names = Vec::new(alloc);
+    for word in words {
+        names.push(String::from_str(alloc, word)?)?;
+    }
+    let limits = limits_of(size);
+    Ok(run_in::<Brand>(alloc, limits, names.as_slice(), files, out, Blank::new(1)))
+}
+
+fn usual_run_in<L: Ledger>(
     alloc: Global,
     words: &[String],
     files: &mut MemFiles,
@@ -77,39 +130,25 @@ fn run_in<L: Ledger>(
     run(alloc, words, files, out, &mut steps)
 }
 
-/// The outcome of a run over these files.
-fn run_over(
-    alloc: Global,
-    words: &[&str],
-    files: &mut MemFiles,
-    out: &mut MemSink,
-) -> Result<Outcome, NoMemory> {
-    let mut names = Vec::new(alloc);
-    for word in words {
-        names.push(String::from_str(alloc, word)?)?;
-    }
-    Ok(run_in::<Brand>(alloc, names.as_slice(), files, out, Blank::new(1)))
-}
-
 /// A specification and a log, the report, and the status.
 type Case = (&'static str, &'static str, &'static str, u8);
 
-/// Whether a run gives this report and status, where the files give their bytes in pieces of this size.
-fn gives(alloc: Global, case: &Case, size: usize) -> Result<bool, NoMemory>
-    requires { 1 ≤ size }
+/// Whether a run of this size gives this report and status, where the files give their bytes in such pieces.
+fn gives(alloc: Global, size: Size, case: &Case, piece: usize) -> Result<bool, NoMemory>
+    requires { 1 ≤ piece }
 {
-    let spec = file_of(alloc, "s", case.0, size, None)?;
-    let log = file_of(alloc, "l", case.1, size, None)?;
+    let spec = file_of(alloc, "s", case.0, piece, None)?;
+    let log = file_of(alloc, "l", case.1, piece, None)?;
     let mut files = files_of(alloc, spec, log)?;
     let mut out = MemSink::open(alloc, 1000)?;
-    let outcome = run_over(alloc, &["s", "l"], &mut files, &mut out)?;
+    let outcome = run_over(alloc, size, &["s", "l"], &mut files, &mut out)?;
     Ok(out.bytes() == case.2.as_bytes() && outcome.status == case.3)
 }
 
 /// Whether it does in pieces of each of three sizes.
-fn always_gives(alloc: Global, case: &Case) -> Result<bool, NoMemory> {
-    for size in [1usize, 7, 1000] {
-        if !gives(alloc, case, size)? {
+fn always_gives(alloc: Global, size: Size, case: &Case) -> Result<bool, NoMemory> {
+    for piece in [1usize, 7, 1000] {
+        if !gives(alloc, size, case, piece)? {
             return Ok(false);
         }
     }
@@ -221,15 +260,9 @@ const PROPERTIES: &[Case] = &[
 ];
 
 const NOT_BUILT: &[Case] = &[
-    (
-        "prop n : exists x . go(x)",
-        "go\n",
-        "stopped: not built\n",
-        8,
-    ),
     ("prop r : P[<=7] go", "go\n", "stopped: not built\n", 8),
     (
-        "pred m() = forall x . a(x) prop r : go & m",
+        "pred m() = forall x . P[>7] a(x) prop r : go & m",
         "go\n",
         "stopped: not built\n",
         8,
@@ -239,6 +272,162 @@ const NOT_BUILT: &[Case] = &[
         "go\n",
         "events 1 violations 0\n",
         0,
+    ),
+];
+
+/// Who accesses logged in, and didn't log out since.
+const ACCESS: &str = "prop access : forall u . access(u) -> [login(u), logout(u))";
+
+const QUANTIFIED: &[Case] = &[
+    (
+        ACCESS,
+        "login,ann\naccess,ann\naccess,bob\nlogout,ann\naccess,ann\n",
+        "violation 3 access\nviolation 5 access\nevents 5 violations 2\n",
+        1,
+    ),
+    (ACCESS, "", "events 0 violations 0\n", 0),
+    (
+        "prop q : forall x . P p(x)",
+        "p,a\n",
+        "violation 1 q\nevents 1 violations 1\n",
+        1,
+    ),
+    (
+        "pred open(x) = exists y . o(x,y) prop m : forall y . c(y) -> P open(y)",
+        "o,a,b\nc,a\nc,b\n",
+        "violation 3 m\nevents 3 violations 1\n",
+        1,
+    ),
+    (
+        "prop w : forall x . forall y . ! r(x,y)",
+        "r,b,c\n",
+        "violation 1 w\nevents 1 violations 1\n",
+        1,
+    ),
+    (
+        "prop v : forall x . forall y . r(x) -> r(y)",
+        "r,b\n",
+        "violation 1 v\nevents 1 violations 1\n",
+        1,
+    ),
+    (
+        "prop n : exists x . go(x) prop o : forall x . go(x) -> @ P go(x)",
+        "go\ngo,a\ngo,b\ngo,a\n",
+        "violation 1 n\nviolation 2 o\nviolation 3 o\nevents 4 violations 3\n",
+        1,
+    ),
+];
+
+/// Runs of small sizes: a code that is used again, one that isn't to be had, a row that has too few nodes, and a log that is
+/// longer than its limit.
+const SMALL: &[(Size, Case)] = &[
+    (
+        (1, 1_000, 1_000),
+        (
+            ACCESS,
+            "login,ann\nlogout,ann\nlogin,bob\naccess,bob\n",
+            "events 4 violations 0\n",
+            0,
+        ),
+    ),
+    (
+        (1, 1_000, 1_000),
+        (
+            ACCESS,
+            "login,ann\nlogin,bob\n",
+            "stopped: codes full at event 2, variable 0 (u), need 2\n",
+            5,
+        ),
+    ),
+    (
+        (1, 1_000, 1_000),
+        (
+            ACCESS,
+            "login,ann\nlogout,ann\nlogin,bob\naccess,bob\nlogout,bob\naccess,ann\n",
+            "violation 6 access\nevents 6 violations 1\n",
+            1,
+        ),
+    ),
+    (
+        (1, 1_000, 1_000),
+        (
+            "prop q : exists x . ! P p(x)",
+            "p,a\n",
+            "events 1 violations 0\n",
+            0,
+        ),
+    ),
+    (
+        (2, 2, 1_000),
+        (
+            "prop r : exists x . P p(x)",
+            "p,a\n",
+            "stopped: nodes full at event 1, subformula 3, row 1\n",
+            5,
+        ),
+    ),
+    (
+        (2, 3, 1_000),
+        (
+            "prop r : exists x . P p(x)",
+            "p,a\n",
+            "events 1 violations 0\n",
+            0,
+        ),
+    ),
+    (
+        (2, 3, 1_000),
+        (
+            "prop r : exists x . P p(x)",
+            "p,a\np,b\n",
+            "stopped: nodes full at event 2, subformula 1, row 1\n",
+            5,
+        ),
+    ),
+    (
+        (2, 5, 1_000),
+        (
+            "prop r : exists x . P p(x)",
+            "p,a\np,b\np,c\n",
+            "events 3 violations 0\n",
+            0,
+        ),
+    ),
+    (
+        (1, 1_000, 1_000),
+        (
+            "prop a : false prop v : forall thing . P p(thing)",
+            "q\np,a\np,b\n",
+            "violation 1 a\nviolation 1 v\nviolation 2 a\nviolation 2 v\nstopped: codes full at event 3, variable 0 (thing), need 2\n",
+            5,
+        ),
+    ),
+    (
+        (8, 1_000, 4),
+        (
+            SINCE,
+            "go,a\nstop,a\n",
+            "stopped: log longer than 4 bytes\n",
+            4,
+        ),
+    ),
+    (
+        (8, 1_000, 11),
+        (
+            SINCE,
+            "go,a\nstop,a\n",
+            "stopped: log longer than 11 bytes\n",
+            4,
+        ),
+    ),
+    (
+        (8, 1_000, 12),
+        (
+            SINCE,
+            "go,a\nstop,a\n",
+            "violation 2 r\nevents 2 violations 1\n",
+            1,
+        ),
     ),
 ];
 
@@ -311,14 +500,62 @@ fn reports_in_pieces_of_any_size(rt: HostRuntime) -> Result<(), Fail> {
         FORMS,
         RECORD_FAULTS,
         PROPERTIES,
+        QUANTIFIED,
         NOT_BUILT,
         NAME_FAULTS,
         SPEC_FAULTS,
     ] {
         for case in cases {
-            assert!(rt; always_gives(rt.alloc(), case)?, "{}, {}", case.0, case.1);
+            assert!(rt;
+                always_gives(rt.alloc(), AMPLE, case)?,
+                "{}, {}",
+                case.0,
+                case.1
+            );
         }
     }
+    for (size, case) in SMALL {
+        assert!(rt;
+            always_gives(rt.alloc(), *size, case)?,
+            "{}, {}",
+            case.0,
+            case.1
+        );
+    }
+    Ok(())
+}
+
+#[test]
+fn the_usual_limits_are_large(rt: HostRuntime) -> Result<(), Fail> {
+    let alloc = rt.alloc();
+    let mut log = Vec::new(alloc);
+    for _ in 0..300 {
+        log.extend_from_slice(
+            b"login,ann\nlogin,bob\nlogin,cy\nlogin,dee\nlogin,eve\nlogout,ann\naccess,ann\n",
+        )?;
+    }
+    let spec = file_of(
+        alloc,
+        "s",
+        "prop a : ! exists u . access(u) & ! [login(u), logout(u))",
+        1000,
+        None,
+    )?;
+    let log = large_file(alloc, "l", log, 30_000)?;
+    let mut files = files_of(alloc, spec, log)?;
+    let mut out = MemSink::open(alloc, 10_000)?;
+    let mut words = Vec::new(alloc);
+    words.push(String::from_str(alloc, "s")?)?;
+    words.push(String::from_str(alloc, "l")?)?;
+    let outcome = usual_run_in::<Brand>(
+        alloc,
+        words.as_slice(),
+        &mut files,
+        &mut out,
+        Blank::new(1),
+    );
+    assert_eq!(rt; outcome.end, End::Violated { count: 300 });
+    assert_eq!(rt; outcome.status, 1);
     Ok(())
 }
 
@@ -349,7 +586,7 @@ fn faults_stop_a_run_with_their_line(rt: HostRuntime) -> Result<(), Fail> {
             let log = file_of(alloc, "l", log, size, log_fails)?;
             let mut files = files_of(alloc, spec, log)?;
             let mut out = MemSink::open(alloc, 1000)?;
-            let outcome = run_over(alloc, words, &mut files, &mut out)?;
+            let outcome = run_over(alloc, AMPLE, words, &mut files, &mut out)?;
             assert_eq!(rt; out.bytes(), report.as_bytes());
             assert_eq!(rt; outcome.status, status, "at {report}");
         }
@@ -367,7 +604,7 @@ fn a_full_output_keeps_a_front_of_the_report(rt: HostRuntime) -> Result<(), Fail
             let log = file_of(alloc, "l", "go,a\nstop,a\nstop,a\n", size, None)?;
             let mut files = files_of(alloc, spec, log)?;
             let mut out = MemSink::open(alloc, room)?;
-            let outcome = run_over(alloc, &["s", "l"], &mut files, &mut out)?;
+            let outcome = run_over(alloc, AMPLE, &["s", "l"], &mut files, &mut out)?;
             assert_eq!(rt; out.bytes(), &report[..room]);
             assert_eq!(rt; outcome.end, End::WriteFault);
             assert_eq!(rt; outcome.status, 6);
@@ -428,7 +665,7 @@ fn limits_are_met_and_not_passed(rt: HostRuntime) -> Result<(), Fail> {
         let log = large_file(alloc, "l", log, 30_000)?;
         let mut files = files_of(alloc, spec, log)?;
         let mut out = MemSink::open(alloc, 1000)?;
-        run_over(alloc, &["s", "l"], &mut files, &mut out)?;
+        run_over(alloc, AMPLE, &["s", "l"], &mut files, &mut out)?;
         assert_eq!(rt; out.bytes(), report.as_bytes(), "{count}");
     }
     Ok(())
@@ -468,44 +705,10 @@ fn a_specification_keeps_its_limits(rt: HostRuntime) -> Result<(), Fail> {
             let log = file_of(alloc, "l", "a\n", size, None)?;
             let mut files = files_of(alloc, spec, log)?;
             let mut out = MemSink::open(alloc, 1000)?;
-            let outcome = run_over(alloc, &["s", "l"], &mut files, &mut out)?;
+            let outcome = run_over(alloc, AMPLE, &["s", "l"], &mut files, &mut out)?;
             assert_eq!(rt; out.bytes(), report.as_bytes(), "{count}");
             assert_eq!(rt; outcome.status, status, "{count}");
         }
     }
-    Ok(())
-}
-
-/// How a log of two records and twelve bytes ends that may have at most `limit` bytes.
-fn end_of_log(alloc: Global, limit: u64) -> Result<End, Fail>
-    requires { limit ≤ 2 ^ 48 }
-{
-    let Ok(judge) = judge_in(alloc, SINCE.as_bytes()) else {
-        return Err(Fail::from("no judge"));
-    };
-    let bytes = Vec::from_slice(alloc, b"go,a\nstop,a\n")?;
-    let mut source = MemSource::new(bytes, pieces_of(alloc, 3)?, Vec::new(alloc));
-    let mut output = Output::open(alloc)?;
-    let mut out = MemSink::open(alloc, 100)?;
-    let mut room = read_room(alloc)?;
-    let reader = LogReader::open(alloc, false)?;
-    let reached = read_log(
-        judge,
-        reader,
-        room.as_mut_slice(),
-        &mut source,
-        &mut output,
-        &mut out,
-        limit,
-    );
-    Ok(reached.end)
-}
-
-#[test]
-fn a_log_is_read_up_to_its_limit(rt: HostRuntime) -> Result<(), Fail> {
-    let alloc = rt.alloc();
-    assert_eq!(rt; end_of_log(alloc, 4)?, End::LogTooLong { limit: 4 });
-    assert_eq!(rt; end_of_log(alloc, 11)?, End::LogTooLong { limit: 11 });
-    assert_eq!(rt; end_of_log(alloc, 12)?, End::Violated { count: 1 });
     Ok(())
 }

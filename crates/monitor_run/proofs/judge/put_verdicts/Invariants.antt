@@ -1,7 +1,6 @@
 use Rattle.std.proofs.Common.{◌≡◌, ◌≤◌, take}
-use Rattle.untimed_monitor.specs.Stands.{row_of}
 use Rattle.monitor_run.specs.Passing.{Passes}
-use Rattle.monitor_run.specs.Standing.{names_in}
+use Rattle.monitor_run.specs.Standing.{names_in, row_of}
 use Rattle.monitor_run.specs.Verdicts.{false_in}
 use Rattle.monitor_run.proofs.Writing.{first_lines}
 use Rattle.monitor_run.proofs.judge.put_verdicts.Given as goal

@@ -1,18 +1,20 @@
 use Rattle.monitor_run.proofs.Given.{is_fed_end, is_fed_within}
 use Rattle.monitor_run.proofs.Walks.{walked_end, walk_whole}
 use Rattle.monitor_run.proofs.log.end_log.Goals as goal
-use Rattle.monitor_run.proofs.log.end_log.Goals.{in-Ok, in-Err}
 
 pub judge_fed-requires-clause-fed : goal.judge_fed-requires-clause-fed
 judge_fed-requires-clause-fed g c =
     let e = c.end.ensures in
-    is_fed_within 281474976710656 c.args.reader c.end.new.self (λ count. is_fed_end count c.args.reader c.end.new.self c.requires.on e.timed e.ended e.given e.stands) c.requires.fed
+    is_fed_within 281474976710656 c.args.reader.now c.end.new.self (λ count. is_fed_end count c.args.reader.now c.end.new.self c.requires.on e.timed e.ended e.given e.stands) c.requires.fed
 
-pub returns-clause-reached : goal.returns-clause-reached
-returns-clause-reached g c items limit all left sent given a at_end =
+pub returns-in-Ok-clause-reached : goal.returns-in-Ok-clause-reached
+returns-in-Ok-clause-reached g c limits items all left sent given a at_end =
     let e = c.end.ensures in
-    let walk = walked_end items limit all left sent _ given c.args.judge c.args.reader c.end.new.self c.args.output.now a at_end e.timed e.ended e.given e.stands in
-    elim c.match-judge_fed.branch [
-      | in-Ok w ↦ rw (w.end-is, w.verdict_of-end.ensures.is) (walk_whole items limit all left sent _ given c.judge_fed.new.judge c.judge_fed.new.reader c.judge_fed.new.output (w.in-Ok.ensures.ok items limit all left sent given _ walk))
-      | in-Err w ↦ rw w.end-is (w.in-Err.ensures.err items limit all left sent given _ walk)
-    ]
+    let walk = walked_end limits items all left sent _ given c.args.judge.now c.args.reader.now c.end.new.self c.args.output.now a at_end e.timed e.ended e.given e.stands in
+    rw c.verdict_of.ensures.is (walk_whole limits items all left sent _ given c.judge_fed.new.judge c.judge_fed.new.reader c.judge_fed.new.output (c.in-Ok.ensures.ok limits items all left sent given _ walk))
+
+pub returns-in-Err-clause-reached : goal.returns-in-Err-clause-reached
+returns-in-Err-clause-reached g c limits items all left sent given a at_end =
+    let e = c.end.ensures in
+    let walk = walked_end limits items all left sent _ given c.args.judge.now c.args.reader.now c.end.new.self c.args.output.now a at_end e.timed e.ended e.given e.stands in
+    c.in-Err.ensures.err limits items all left sent given _ walk

@@ -1,22 +1,27 @@
-use Rattle.std.proofs.Common.{◌≡◌, ◌*◌, ◌-◌, ◌<◌, ◌≤◌, List, [], length, false, Some}
+use Rattle.std.proofs.Common.{◌≡◌, ◌-◌, ◌<◌, ◌≤◌, List, [], length, false, Some}
+use Rattle.bdd_ops.specs.Shelf.{IsLarge}
 use Rattle.qtl_syntax.specs.Tree.{Text, Item}
+use Rattle.monitor_step.specs.Monitor.{step_bound}
+use Rattle.monitor_run.specs.Judging.{IsReady, KeepsPlan, Spends}
 use Rattle.monitor_run.specs.Standing.{StandsAt, IsFed, WalkedAll}
 use Rattle.monitor_run.proofs.log.read_log.Given as goal
 
 -- so many bytes were taken, and their events were judged
 abbrev pub invariant-pieces : goal.invariant-pieces
 invariant-pieces g l = record {
-  walked : (items : List Item) (all : Text) → StandsAt items [] [] l.fn.judge → g.S.Source.left l.fn.source ≡ Some all → (given : Text) × (length given ≡ l.taken)
-      × WalkedAll items l.limit all (g.S.Source.left l.source) (g.W.Sink.written l.fn.out) (g.W.Sink.written l.out) given false l.judge l.reader l.output;
+  walked : (items : List Item) (all : Text) → StandsAt l.limits items [] [] l.fn.judge → g.S.Source.left l.fn.source ≡ Some all → (given : Text) × (length given ≡ l.taken)
+      × WalkedAll l.limits items all (g.S.Source.left l.source) (g.W.Sink.written l.fn.out) (g.W.Sink.written l.out) given false l.judge l.reader l.output;
   room : 0 < length l.room;
   closed : l.reader.ended ≡ false;
   fed : IsFed l.taken l.reader;
   events : l.judge.events ≡ l.reader.given;
-  fewer : l.judge.violations ≤ 4096 * l.judge.events;
-  within : l.taken ≤ l.limit;
+  ready : IsReady l.judge;
+  plan : KeepsPlan l.fn.judge l.judge;
+  within : l.taken ≤ l.limits.log;
   later : g.S.Source.faults l.fn.source ≤ g.S.Source.faults l.source;
   out_later : g.W.Sink.faults l.fn.out ≤ g.W.Sink.faults l.out;
+  cost : IsLarge l.fn.judge.monitor.shelf → Spends (step_bound l.fn.judge.monitor) l.fn.judge.events l.judge.events l.fn.steps l.steps;
 }
 
 abbrev pub decreases-pieces : goal.decreases-pieces
-decreases-pieces g l = l.limit - l.taken
+decreases-pieces g l = l.limits.log - l.taken

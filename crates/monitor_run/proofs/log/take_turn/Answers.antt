@@ -1,17 +1,31 @@
 use Rattle.std.proofs.Common.{◌∙◌, ◌+◌, ◌++◌, take, length, arith}
 use Rattle.std.proofs.lemmas.List.{length-take-le}
+use Rattle.monitor_step.specs.Monitor.{step_bound}
 use Rattle.monitor_run.proofs.Ends.{cause_more, rose_after}
 use Rattle.monitor_run.proofs.Given.{is_fed_piece}
+use Rattle.monitor_run.proofs.Spending.{keeps_none, spends_still}
 use Rattle.monitor_run.proofs.Walks.{walked_fed, fed_starved, read_reached}
 use Rattle.monitor_run.proofs.log.take_turn.Goals as goal
 
 pub returns-in-Err-clause-err : goal.returns-in-Err-clause-err
-returns-in-Err-clause-err g c items limit all sent given short a =
-    read_reached items limit all _ _ sent _ _ given c.args.judge.now c.args.reader.now c.args.output.now c.fetch.new.output c.in-Err.end a c.in-Err.ensures.failed
+returns-in-Err-clause-err g c limits items all sent given short a =
+    read_reached limits items all _ _ sent _ _ given c.args.judge.now c.args.reader.now c.args.output.now c.fetch.new.output c.in-Err.end a c.in-Err.ensures.failed
 
 pub returns-in-Err-feed-clause-err : goal.returns-in-Err-feed-clause-err
-returns-in-Err-feed-clause-err g c items limit all sent given short a =
-    fed_starved items limit all _ (g.S.Source.left c.fetch.new.source) sent _ _ given c.args.judge.now c.args.reader.now c.args.output.now c.fetch.new.output c.args.judge.now.events a c.in-Ok.ensures.sent.0 c.in-Ok.ensures.sent.1
+returns-in-Err-feed-clause-err g c limits items all sent given short a =
+    fed_starved limits items all _ (g.S.Source.left c.fetch.new.source) sent _ _ given c.args.judge.now c.args.reader.now c.args.output.now c.fetch.new.output a c.in-Ok.ensures.sent.0 c.in-Ok.ensures.sent.1
+
+pub returns-in-Err-clause-plan : goal.returns-in-Err-clause-plan
+returns-in-Err-clause-plan g c = keeps_none c.args.judge.now
+
+pub returns-in-Err-clause-cost : goal.returns-in-Err-clause-cost
+returns-in-Err-clause-cost g c large = spends_still (step_bound c.args.judge.now.monitor) c.args.judge.now.events c.args.steps.now
+
+pub returns-in-Err-feed-clause-plan : goal.returns-in-Err-feed-clause-plan
+returns-in-Err-feed-clause-plan g c = keeps_none c.args.judge.now
+
+pub returns-in-Err-feed-clause-cost : goal.returns-in-Err-feed-clause-cost
+returns-in-Err-feed-clause-cost g c large = spends_still (step_bound c.args.judge.now.monitor) c.args.judge.now.events c.args.steps.now
 
 pub judge_fed-requires-clause-fed : goal.judge_fed-requires-clause-fed
 judge_fed-requires-clause-fed g c =
@@ -28,13 +42,13 @@ pub returns-in-Ok-judge_fed-clause-on : goal.returns-in-Ok-judge_fed-clause-on
 returns-in-Ok-judge_fed-clause-on g c = c.in-Ok-judge_fed.ensures.on ∙ c.feed.ensures.ended ∙ c.requires.on
 
 pub returns-in-Ok-judge_fed-clause-ok : goal.returns-in-Ok-judge_fed-clause-ok
-returns-in-Ok-judge_fed-clause-ok g c items limit all sent given short a =
+returns-in-Ok-judge_fed-clause-ok g c limits items all sent given short a =
     let e = c.in-Ok-feed.ensures in
     let o = c.in-Ok.ensures in
     let piece = take c.in-Ok.count c.fetch.new.room in
     let n = length-take-le c.in-Ok.count c.fetch.new.room o.within in
-    let w = walked_fed items limit all _ _ sent _ _ given piece c.args.judge.now c.args.reader.now c.feed.new.self c.args.output.now c.fetch.new.output a o.taken o.sent.0 o.sent.1 (omega (arith, n, o.most, short)) e.fed e.stands in
-    (piece, n, c.in-Ok-judge_fed.ensures.ok items limit all _ sent (given ++ piece) _ w)
+    let w = walked_fed limits items all _ _ sent _ _ given piece c.args.judge.now c.args.reader.now c.feed.new.self c.args.output.now c.fetch.new.output a o.taken o.sent.0 o.sent.1 (omega (arith, n, o.most, short)) e.fed e.stands in
+    (piece, n, c.in-Ok-judge_fed.ensures.ok limits items all _ sent (given ++ piece) _ w)
 
 pub returns-in-Ok-judge_fed-clause-fed : goal.returns-in-Ok-judge_fed-clause-fed
 returns-in-Ok-judge_fed-clause-fed g c count f =
@@ -44,13 +58,13 @@ returns-in-Ok-judge_fed-clause-fed g c count f =
     c.in-Ok-judge_fed.ensures.fed (count + c.in-Ok.count) (rw (← n) (is_fed_piece count piece c.args.reader.now c.feed.new.self c.requires.on e.fed e.stands f))
 
 pub returns-in-Err-judge_fed-clause-err : goal.returns-in-Err-judge_fed-clause-err
-returns-in-Err-judge_fed-clause-err g c items limit all sent given short a =
+returns-in-Err-judge_fed-clause-err g c limits items all sent given short a =
     let e = c.in-Ok-feed.ensures in
     let o = c.in-Ok.ensures in
     let piece = take c.in-Ok.count c.fetch.new.room in
     let n = length-take-le c.in-Ok.count c.fetch.new.room o.within in
-    let w = walked_fed items limit all _ _ sent _ _ given piece c.args.judge.now c.args.reader.now c.feed.new.self c.args.output.now c.fetch.new.output a o.taken o.sent.0 o.sent.1 (omega (arith, n, o.most, short)) e.fed e.stands in
-    c.in-Err-judge_fed.ensures.err items limit all _ sent (given ++ piece) _ w
+    let w = walked_fed limits items all _ _ sent _ _ given piece c.args.judge.now c.args.reader.now c.feed.new.self c.args.output.now c.fetch.new.output a o.taken o.sent.0 o.sent.1 (omega (arith, n, o.most, short)) e.fed e.stands in
+    c.in-Err-judge_fed.ensures.err limits items all _ sent (given ++ piece) _ w
 
 pub returns-in-Err-judge_fed-clause-cause : goal.returns-in-Err-judge_fed-clause-cause
 returns-in-Err-judge_fed-clause-cause g c =

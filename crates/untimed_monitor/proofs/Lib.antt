@@ -1,6 +1,0 @@
-mod Atoms
-mod First
-mod Roots
-mod Rows
-mod Steps
-mod Walking
