@@ -9,17 +9,7 @@ rounds=${2:-5}
 [ $# -lt 1 ] || shift
 [ $# -lt 1 ] || shift
 here=$(CDPATH='' cd "$(dirname "$0")" && pwd)
-program=$here/../crates/dejavu_cli/out/dejavu_cli
-
-if [ ! -x "$program" ]; then
-    echo 'the proved program is not built: run .ci/run first' >&2
-    exit 1
-fi
-if ! command -v python3 >/dev/null; then
-    echo 'python3 is missing' >&2
-    exit 1
-fi
-mkdir -p "$here/data"
+. "$here/program.sh"
 
 # The sample log: round n logs user n in, who accesses; user n - 100 logs out. Now and then a user who has logged out accesses.
 log=$here/data/access-$events.csv

@@ -8,22 +8,13 @@ lines=${1:-10000000}
 rounds=${2:-7}
 peer=${3:-}
 here=$(CDPATH='' cd "$(dirname "$0")" && pwd)
-program=$here/../crates/dejavu_cli/out/dejavu_cli
+. "$here/program.sh"
 spec=$here/session.qtl
 
-if [ ! -x "$program" ]; then
-    echo 'the proved program is not built: run .ci/run first' >&2
-    exit 1
-fi
-if ! command -v python3 >/dev/null; then
-    echo 'python3 is missing' >&2
-    exit 1
-fi
 if [ -n "$peer" ] && [ ! -x "$peer" ]; then
     echo "$peer is no program" >&2
     exit 1
 fi
-mkdir -p "$here/data"
 
 # Sessions of 1000 users, one after another, each of a login, three accesses and a logout. User 17 comes first.
 plain=$here/data/session-$lines.csv
