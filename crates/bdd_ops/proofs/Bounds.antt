@@ -237,7 +237,7 @@ depth-le t h sh v =
 
 -- what a try costs, where the memo has room for each pair of handles
 pub try_bounded : (op : Op) (u v : ℕ) (t w : Table) (m n : Memo ℕ) (s k : ℕ) (r : Result ℕ Full) → IsShared t → IsValid t u → IsValid t v → IsMemo n → Applies op u v t w m n s k r → length
-    m.pairs + (t.room + 2) * (t.room + 2) < m.entries → k ≤ s + 3 * ((t.room + 2) * (t.room + 2))
+    m.pairs + (t.room + 2) * (t.room + 2) < m.entries → k ≤ s + (2 * ((t.room + 2) * (t.room + 2)) + 4 * t.room)
 try_bounded op u v t w m n s k r sh vu vv memo a roomy =
     let same : w.room ≡ t.room = a.made.grows.keeps.room in
     let most : length n.pairs ≤ length m.pairs + (t.room + 2) * (t.room + 2) =
@@ -248,5 +248,5 @@ try_bounded op u v t w m n s k r sh vu vv memo a roomy =
     let less = unfinished-le r (depths t u v) in
     small (t.room) s k (length m.pairs) (length n.pairs) (unfinished r (depths t u v)) (depth (tree_of t u)) (depth (tree_of t v)) c most less du dv
   where
-    small : (x s k p q d i j : ℕ) → k + 2 * p ≤ s + 2 * q + 2 * d → q ≤ p + (x + 2) * (x + 2) → d ≤ i + j → i ≤ x → j ≤ x → k ≤ s + 3 * ((x + 2) * (x + 2))
+    small : (x s k p q d i j : ℕ) → k + 2 * p ≤ s + 2 * q + 2 * d → q ≤ p + (x + 2) * (x + 2) → d ≤ i + j → i ≤ x → j ≤ x → k ≤ s + (2 * ((x + 2) * (x + 2)) + 4 * x)
     small x s k p q d i j a b c e f = omega (arith, a, b, c, e, f)

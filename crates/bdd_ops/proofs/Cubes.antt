@@ -2,8 +2,8 @@
 use Rattle.std.proofs.Common.{◌≡◌, ℕ, ◌+◌, ◌<◌, ◌≤◌, List, [], ◌∷◌, length, take, drop, ◌-◌, cond, refl, ap, sym, ◌∙◌, arith, subst}
 use Rattle.std.specs.Prelude.{Bool, true, false, ◌&&◌, not, Result, Ok, Err, IsErr, slice_index_or}
 use Rattle.std.proofs.lemmas.List.{take_all}
-use Rattle.node_tree.specs.Tree.{Tree, Zero, One, join, bit, value, branches, IsOrderedFrom, top}
-use Rattle.node_tree.proofs.Joins.{join_low, join_high, top_from_ordered}
+use Rattle.node_tree.specs.Tree.{Tree, Zero, One, join, bit, value, branches, IsOrderedFrom}
+use Rattle.node_tree.proofs.Joins.{join_low, join_high}
 use Rattle.node_tree.proofs.Setting.{join_ordered, join_value}
 use Rattle.bdd_ops.specs.declared.literals.Literal.{Literal}
 use Rattle.bdd_ops.specs.Cube.{literal_tree, cube_tree, holds, all_hold, AscendFrom}
@@ -32,7 +32,7 @@ pub cube-value : (ls : List Literal) (bits : List Bool) → value (cube_tree ls)
 cube-value [] bits = refl
 cube-value (l ∷ ls) bits = literal-value l (cube_tree ls) bits ∙ ap (λ x. holds l bits && x) (cube-value ls bits)
 
-literal-ordered : (l : Literal) (t : Tree) (n : ℕ) → n ≤ l.level → IsOrderedFrom (l.level + 1) t → IsOrderedFrom n (literal_tree l t)
+pub literal-ordered : (l : Literal) (t : Tree) (n : ℕ) → n ≤ l.level → IsOrderedFrom (l.level + 1) t → IsOrderedFrom n (literal_tree l t)
 literal-ordered l t n h o = by_bit l.bit
   where
     by_bit : (b : Bool) → IsOrderedFrom n (cond b (join l.level Zero t) (join l.level t Zero))
@@ -58,27 +58,34 @@ low-made l t e = ap (λ b. cond b (join l.level Zero t) (join l.level t Zero)) (
 pub high-made : (l : Literal) (t : Tree) → l.bit ≡ true → join l.level Zero t ≡ literal_tree l t
 high-made l t e = ap (λ b. cond b (join l.level Zero t) (join l.level t Zero)) (sym e)
 
--- the rest of a cube had no room
-pub cube-err : (l : Literal) (ls : List Literal) (t w : Table) (r z : Result ℕ Full) → IsShared t → IsErr r → IsErr z → Makes (cube_tree ls) t w r → Makes (cube_tree (l ∷ ls)) t w z
-cube-err l ls t w r (Ok h) s e i m = absurd (never i)
-cube-err l ls t w r (Err x) s e i m = record {
+-- a part had no room
+pub part_err : (part whole : Tree) (t w : Table) (r z : Result ℕ Full) → IsPart part whole → IsShared t → IsErr r → IsErr z → Makes part t w r → Makes whole t w z
+part_err part whole t w r (Ok h) p s e i m = absurd (never i)
+part_err part whole t w (Ok h) (Err y) p s e i m = absurd (never e)
+part_err part whole t w (Err x) (Err y) p s e i m = record {
   valid = tt;
   is = tt;
-  grows = widened t w (cube_tree ls) (cube_tree (l ∷ ls)) (literal-part l (cube_tree ls)) m.grows;
-  full = (λ y. full_back t t (cube_tree ls) (cube_tree (l ∷ ls)) (grows_none t (cube_tree (l ∷ ls)) s) (literal-part l (cube_tree ls)) (m.full.0 e), λ y. refl);
+  grows = widened t w part whole p m.grows;
+  full = (λ y. full_back t t part whole (grows_none t whole s) p (m.full.0 refl), λ y. refl);
 }
+
+-- a part was made, and then the whole or not
+pub part_made : (part whole : Tree) (t w x : Table) (h : ℕ) (r : Result ℕ Full) → IsPart part whole → Makes part t w (Ok h) → Makes whole w x r → Makes whole t x r
+part_made part whole t w x h r p m n = let g = widened t w part whole p m.grows in ends r n (chained t w x whole g n.grows) g
+  where
+    ends : (r : Result ℕ Full) → Makes whole w x r → Grows t x whole → Grows t w whole → Makes whole t x r
+    ends (Ok k) n g i = made_ok t x whole k n.valid n.is g
+    ends (Err e) n g i = record { valid = tt; is = tt; grows = g; full = (λ y. full_back t w whole whole i (λ q m. m) (n.full.0 refl), λ y. refl) }
+
+-- the rest of a cube had no room
+pub cube-err : (l : Literal) (ls : List Literal) (t w : Table) (r z : Result ℕ Full) → IsShared t → IsErr r → IsErr z → Makes (cube_tree ls) t w r → Makes (cube_tree (l ∷ ls)) t w z
+cube-err l ls t w r z = part_err (cube_tree ls) (cube_tree (l ∷ ls)) t w r z (literal-part l (cube_tree ls))
 
 -- the rest of a cube was made, and its first literal or not
 pub cube-made : (l : Literal) (ls : List Literal) (t w x : Table) (h : ℕ) (r : Result ℕ Full) → Makes (cube_tree ls) t w (Ok h) → Makes (literal_tree l (tree_of w h)) w x r → Makes
     (cube_tree (l ∷ ls)) t x r
 cube-made l ls t w x h r m n =
-    let p : Makes (cube_tree (l ∷ ls)) w x r = subst (λ y. Makes (literal_tree l y) w x r) m.is n in
-    let g = widened t w (cube_tree ls) (cube_tree (l ∷ ls)) (literal-part l (cube_tree ls)) m.grows in
-    ends r p (chained t w x (cube_tree (l ∷ ls)) g p.grows) g
-  where
-    ends : (r : Result ℕ Full) → Makes (cube_tree (l ∷ ls)) w x r → Grows t x (cube_tree (l ∷ ls)) → Grows t w (cube_tree (l ∷ ls)) → Makes (cube_tree (l ∷ ls)) t x r
-    ends (Ok k) p g i = made_ok t x (cube_tree (l ∷ ls)) k p.valid p.is g
-    ends (Err e) p g i = record { valid = tt; is = tt; grows = g; full = (λ y. full_back t w (cube_tree (l ∷ ls)) (cube_tree (l ∷ ls)) i (λ q m. m) (p.full.0 refl), λ y. refl) }
+    part_made (cube_tree ls) (cube_tree (l ∷ ls)) t w x h r (literal-part l (cube_tree ls)) m (subst (λ y. Makes (literal_tree l y) w x r) m.is n)
 
 pub no_literals : (ls : List Literal) → length ls < 1 → One ≡ cube_tree ls
 no_literals [] h = refl

@@ -4,6 +4,7 @@ pub mod Splitting
 pub mod Growing
 pub mod Memo
 pub mod Stages
+pub mod Shortly
 pub mod Bounds
 pub mod Tries
 pub mod Whole
@@ -14,3 +15,4 @@ pub mod LevelBounds
 pub mod WholeLevel
 pub mod Cubes
 pub mod Walks
+pub mod CodeCubes

@@ -72,26 +72,28 @@ module _ (tree : Tree) (operands roots : List ℕ) (old w new : Table) (room : w
   stay : AllStay old w (operands ++ roots)
   stay = both_lists (λ h. IsValid w h × (tree_of w h ≡ tree_of old h)) operands roots so sr
 
-  -- the tree was made over a table that has all operands and roots
-  pub ok_ends : (made : ℕ) → Makes tree w new (Ok made) → Operates tree operands roots old new (Ok made)
-  ok_ends made m =
-      let k = m.grows.keeps in let s = m.grows.shared in
+  -- the tree is there over a table that has all operands and roots
+  pub there_ends : (made : ℕ) → KeepsTrees w new → IsShared new → IsValid new made → tree_of new made ≡ tree → Operates tree operands roots old new (Ok made)
+  there_ends made k s valid is =
       let here = stay_kept old w new (operands ++ roots) k stay in
-      let fit = fits_all new made (operands ++ roots) s m.valid (stay_valid old new (operands ++ roots) here) in
+      let fit = fits_all new made (operands ++ roots) s valid (stay_valid old new (operands ++ roots) here) in
       let same : size (tree_of new made ∷ map (tree_of new) (operands ++ roots)) ≡ need_with tree (operands ++ roots) old =
-      ap (λ x. size (x ∷ map (tree_of new) (operands ++ roots))) m.is ∙ same_need tree (operands ++ roots) old new here in
+      ap (λ x. size (x ∷ map (tree_of new) (operands ++ roots))) is ∙ same_need tree (operands ++ roots) old new here in
       let r = k.room in
       record {
         room = k.room ∙ room;
         shared = s;
-        valid = m.valid;
-        is = m.is;
-        ordered = s.ordered made m.valid;
-        reduced = s.reduced made m.valid;
+        valid = valid;
+        is = is;
+        ordered = s.ordered made valid;
+        reduced = s.reduced made valid;
         operands_stay = stay_kept old w new operands k so;
         roots_stay = stay_kept old w new roots k sr;
         full = (λ x. absurd (never x), λ f. absurd (omega (arith, f, fit, same, r, room)));
       }
+
+  pub ok_ends : (made : ℕ) → Makes tree w new (Ok made) → Operates tree operands roots old new (Ok made)
+  ok_ends made m = there_ends made m.grows.keeps m.grows.shared m.valid m.is
 
   -- after a collection, too much for the table is too much for operands, roots and result
   pub full_ends : (e : NodesFull) (z : Full) → Collects old w roots operands → Makes tree w new (Err z) → Operates tree operands roots old new (Err e)

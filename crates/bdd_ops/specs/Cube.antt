@@ -11,6 +11,11 @@ abbrev pub cube_tree : List Literal → Tree
 cube_tree [] = One
 cube_tree (l ∷ ls) = literal_tree l (cube_tree ls)
 
+-- the tree that holds where all literals do and a tree below their levels
+abbrev pub cube_over : List Literal → Tree → Tree
+cube_over [] t = t
+cube_over (l ∷ ls) t = literal_tree l (cube_over ls t)
+
 -- whether the bit of the literal's level is its bit
 abbrev pub holds : Literal → List Bool → Bool
 holds l bits = if l.bit then bit bits l.level else not (bit bits l.level)

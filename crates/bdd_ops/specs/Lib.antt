@@ -3,9 +3,11 @@ pub mod Numbers
 pub mod Parts
 pub mod Split
 pub mod Applied
+pub mod Tried
 pub mod Shelf
 pub mod Operates
 pub mod Level
 pub mod Cube
+pub mod Codes
 pub mod Reading
 pub mod Lent

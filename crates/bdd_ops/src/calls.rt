@@ -11,6 +11,7 @@ ghost use Rattle.bdd_ops.specs.Shelf.{handle_pairs, HasRoom, IsBounded};
 ghost use Rattle.bdd_ops.specs.Operates.{Operates};
 
 use crate::combine::apply_parts;
+use crate::short::apply_shortly;
 use crate::{NodesFull, Op, Store};
 use mon_base::Steps;
 use node_table::{Full, Handle};
@@ -28,7 +29,7 @@ pub fn apply_inside<L: Ledger>(
     requires right { IsValid store.old.table v }
     requires sound { IsSound store.old.table store.old.memo.pairs }
     ensures applies { Applies op u v store.old.table store.new.table store.old.memo store.new.memo steps.old steps.new result }
-    ensures bounded { HasRoom store.old → steps.new ≤ steps.old + 3 * handle_pairs store.old.table }
+    ensures bounded { HasRoom store.old → steps.new ≤ steps.old + (2 * handle_pairs store.old.table + 4 * store.old.table.room) }
 {
     let _nodes = store.table.live();
     let made = apply_parts(&mut store.table, &mut store.cache, op, u, v, steps);
@@ -37,8 +38,8 @@ pub fn apply_inside<L: Ledger>(
     made
 }
 
-/// The operation on two trees. An operation that finds the table full is dropped, the table is collected, and the
-/// operation is tried once more.
+/// The operation on two trees. Where the memo doesn't have it, it is tried shortly first. An operation that finds the table
+/// full is dropped, the table is collected, and the operation is tried once more.
 pub fn apply<L: Ledger>(
     store: &mut Store,
     op: Op,
@@ -59,6 +60,13 @@ pub fn apply<L: Ledger>(
 {
     let operands = [u, v];
     store.make_ready(&operands, roots);
+    let _held = store.live();
+    if let Some(known) = store.find(op.key(u, v)) {
+        return Ok(known);
+    }
+    if let Some(made) = apply_shortly(store, op, u, v, steps) {
+        return Ok(made);
+    }
     if let Ok(made) = apply_inside(store, op, u, v, steps) {
         return Ok(made);
     }

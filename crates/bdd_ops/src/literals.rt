@@ -21,7 +21,11 @@ pub struct Literal {
 }
 
 /// The handle of the tree that holds where a literal does and a tree below its level.
-fn put_literal(table: &mut NodeTable, literal: Literal, rest: Handle) -> Result<Handle, Full>
+pub(crate) fn put_literal(
+    table: &mut NodeTable,
+    literal: Literal,
+    rest: Handle,
+) -> Result<Handle, Full>
     requires rest { IsValid table.old rest }
     requires below { literal.level < top (tree_of table.old rest) }
     ensures { Makes (literal_tree literal (tree_of table.old rest)) table.old table.new result }

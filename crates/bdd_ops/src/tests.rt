@@ -2,9 +2,11 @@
 
 ghost use Rattle.std.specs.Prelude.{◌≡◌, ◌<◌};
 
-use crate::{Literal, NodesFull, Op, Store, apply, cube, eval, not, restrict};
+use crate::{
+    BlockCode, Literal, NodesFull, Op, Store, apply, code_cube, cube, eval, not, restrict,
+};
 use mon_base::{NoMemory, Steps};
-use node_table::Handle;
+use node_table::{Block, Handle};
 use std::alloc::Global;
 use std::marker::Brand;
 use std::sync::ledger::{Blank, Ledger};
@@ -130,6 +132,30 @@ fn negated<L: Ledger>(alloc: Global, blank: Blank) -> Result<Option<[bool; 4]>, 
     ]))
 }
 
+/// Whether two bits spell 2, at 00, 01, 10 and 11.
+fn spelled<L: Ledger>(alloc: Global, blank: Blank) -> Result<Option<[bool; 4]>, NoMemory>
+    requires name { blank.name ≡ L.name }
+    requires parts { blank.parts ≡ L.parts }
+    requires some { 0 < L.parts }
+{
+    let mut steps = Steps::<L>::new(blank);
+    let mut store = Store::open(alloc, 2, 64)?;
+    let codes = [BlockCode {
+        block: Block { first: 0, bits: 2 },
+        code: 2,
+    }];
+    let Ok(made) = code_cube(&mut store, &codes, &[], &mut steps) else {
+        return Ok(None);
+    };
+    let table = store.table();
+    Ok(Some([
+        eval(table, made, &[false, false], &mut steps),
+        eval(table, made, &[false, true], &mut steps),
+        eval(table, made, &[true, false], &mut steps),
+        eval(table, made, &[true, true], &mut steps),
+    ]))
+}
+
 #[test]
 fn the_need_decides(rt: HostRuntime) -> Result<(), Fail> {
     assert_eq!(rt;
@@ -161,6 +187,10 @@ fn truth_tables(rt: HostRuntime) -> Result<(), Fail> {
     assert_eq!(rt;
         negated::<Brand>(rt.alloc(), Blank::new(1))?,
         Some([true, false, false, false])
+    );
+    assert_eq!(rt;
+        spelled::<Brand>(rt.alloc(), Blank::new(1))?,
+        Some([false, false, true, false])
     );
     Ok(())
 }

@@ -6,3 +6,6 @@ ghosts-truths g a = record { name = a.blank.name; parts = a.blank.parts }
 
 abbrev pub ghosts-negated : goal.ghosts-negated
 ghosts-negated g a = record { name = a.blank.name; parts = a.blank.parts }
+
+abbrev pub ghosts-spelled : goal.ghosts-spelled
+ghosts-spelled g a = record { name = a.blank.name; parts = a.blank.parts }
