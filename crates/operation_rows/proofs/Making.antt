@@ -1,23 +1,23 @@
 -- What one operation, or two, leave as rows.
-use Rattle.std.proofs.Common.{◌≡◌, ◌⊎◌, ℕ, zero, suc, ◌+◌, ◌-◌, ◌<◌, ◌≤◌, ◌↔◌, List, [], ◌∷◌, ◌++◌, length, map, refl, ap, sym, ◌∙◌, arith, ⊎_elim, inl, inr, subst}
-use Rattle.std.specs.Prelude.{true, false, Bool, Result, Ok, Err, IsErr, IfOk, slice_index_or, take}
+use Rattle.std.proofs.Common.{◌≡◌, ◌⊎◌, ℕ, zero, suc, ◌<◌, ◌≤◌, ◌↔◌, List, [], ◌∷◌, ◌++◌, length, map, refl, ap, sym, ◌∙◌, arith, ⊎_elim, inl, inr, subst}
+use Rattle.std.specs.Prelude.{true, false, not, Result, Ok, Err, IsErr, IfOk, slice_index_or}
 use Rattle.std.specs.List.{Contains}
 use Rattle.std.proofs.lemmas.Bool.{cases_lt}
-use Rattle.node_tree.specs.Tree.{Tree, Zero, size}
+use Rattle.node_tree.specs.Tree.{Tree, Zero, One, size}
 use Rattle.node_table.specs.Table.{Table, tree_of, IsValid, IsShared}
 use Rattle.node_table.specs.Collects.{AllValid}
 use Rattle.bdd_ops.specs.declared.store.NodesFull.{NodesFull}
 use Rattle.bdd_ops.specs.declared.op.Op.{Op}
-use Rattle.bdd_ops.specs.Apply.{apply_tree}
+use Rattle.bdd_ops.specs.declared.op.Op.TheVariants.{AndNot}
+use Rattle.bdd_ops.specs.Apply.{map_leaves, apply_tree}
 use Rattle.bdd_ops.specs.Numbers.{truth_of}
 use Rattle.bdd_ops.specs.Applied.{op_tree}
 use Rattle.bdd_ops.specs.Operates.{AllStay, need_with, Operates}
-use Rattle.bdd_ops.proofs.Tries.{same_map, fits_all, stay_same}
-use Rattle.quantify.specs.Quantified.{after_rows}
-use Rattle.quantify.specs.Rows.{row_need, Quantifies}
-use Rattle.quantify.specs.declared.block.BlockFull.{BlockFull}
+use Rattle.bdd_ops.proofs.Growing.{grows_none}
+use Rattle.bdd_ops.proofs.Stages.{made_ok}
+use Rattle.bdd_ops.proofs.Tries.{same_map, fits_all, stay_same, both_valid, first_ok}
 use Rattle.operation_rows.specs.declared.rows.RowFull.{RowFull}
-use Rattle.operation_rows.specs.Fitting.{last_two, row_size, FitTo, block_trees, MakesRows}
+use Rattle.operation_rows.specs.Fitting.{row_size, FitTo, MakesRows}
 use Rattle.operation_rows.proofs.Sizes.{Has, has_left, has_right, has_cases, has_handle, size_le, size_same}
 
 never : false ≡ true → ⊥
@@ -215,6 +215,27 @@ root_stays old new roots h s (k, l, e) = stay_at roots s k l e
     stay_at [] s k l e = absurd (omega (arith, l))
     stay_at (x ∷ hs) s zero l e = subst (λ (y : ℕ). tree_of new y ≡ tree_of old y) e (s 0 (omega arith)).1
     stay_at (x ∷ hs) s (suc k) l e = stay_at hs (λ j m. s (suc j) (omega (arith, m))) k (omega (arith, l)) e
+
+-- an operation whose tree a valid handle has: nothing changes, and what stands in the table fits in it
+pub known_ok : (tree : Tree) (u v : ℕ) (roots : List ℕ) (t : Table) (h : ℕ) → IsShared t → IsValid t u → IsValid t v → AllValid t roots → IsValid t h × (tree_of t h ≡ tree) →
+    Operates tree (u ∷ (v ∷ [])) roots t t (Ok h)
+known_ok tree u v roots t h s vu vv vr known =
+    first_ok tree (u ∷ (v ∷ [])) roots t t h (both_valid t u v vu vv) vr (made_ok t t tree h known.0 known.1 (grows_none t tree s))
+
+-- a negation is an operation whose first operand is the leaf one
+pub negates : (u h : ℕ) (roots : List ℕ) (t new : Table) (r : Result ℕ NodesFull) → tree_of t u ≡ One → Operates (op_tree AndNot t u h) (u ∷ (h ∷ [])) roots t new r →
+    Operates (map_leaves not (tree_of t h)) (h ∷ []) roots t new r
+negates u h roots t new r e o = record {
+  room = o.room;
+  shared = o.shared;
+  valid = o.valid;
+  is = subst (λ x. IfOk r (λ k. tree_of new k ≡ apply_tree (truth_of AndNot) x (tree_of t h))) e o.is;
+  ordered = o.ordered;
+  reduced = o.reduced;
+  operands_stay = λ j l. o.operands_stay (suc j) (omega (arith, l));
+  roots_stay = o.roots_stay;
+  full = subst (λ x. IsErr r ↔ (t.room < size (apply_tree (truth_of AndNot) x (tree_of t h) ∷ (x ∷ map (tree_of t) (h ∷ roots))))) e o.full;
+}
 
 -- an operation on two handles whose trees are known
 pub of_trees : (op : Op) (u v : ℕ) (p q : Tree) (roots : List ℕ) (mid new : Table) (r : Result ℕ NodesFull) → tree_of mid u ≡ p → tree_of mid v ≡ q →

@@ -5,7 +5,8 @@
 mod rows;
 
 pub use rows::{
-    RowFull, cube_row, interval_rows, leaf_row, not_row, operation_row, quantifier_rows, since_rows,
+    RowFull, code_cube_row, interval_rows, leaf_row, not_row, operation_row, quantifier_rows,
+    since_rows,
 };
 
 #[cfg(test)]

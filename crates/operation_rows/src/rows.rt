@@ -2,20 +2,22 @@
 //! so it is refused exactly where these, its operands and its result have more branches than the table has nodes.
 
 ghost use Rattle.std.specs.Prelude.{◌≡◌, ◌+◌, ◌*◌, ◌≤◌, ◌<◌, [], ◌∷◌, not};
-ghost use Rattle.std.specs.List.{Contains};
+ghost use Rattle.std.specs.List.{All, Contains};
 ghost use Rattle.node_tree.specs.Tree.{Zero};
-ghost use Rattle.node_table.specs.Table.{tree_of, IsShared};
+ghost use Rattle.node_table.specs.Table.{tree_of, IsValid, IsShared};
 ghost use Rattle.node_table.specs.Collects.{AllValid};
 ghost use Rattle.bdd_ops.specs.declared.op.Op.TheVariants.{And, Or, AndNot};
 ghost use Rattle.bdd_ops.specs.Apply.{apply_tree, map_leaves};
 ghost use Rattle.bdd_ops.specs.Numbers.{truth_of};
 ghost use Rattle.bdd_ops.specs.Applied.{op_tree};
 ghost use Rattle.bdd_ops.specs.Cube.{cube_tree, AscendFrom};
+ghost use Rattle.bdd_ops.specs.Codes.{code_list_literals, HasLevels};
+ghost use Rattle.bdd_ops.specs.Operates.{Operates};
 ghost use Rattle.bdd_ops.specs.Shelf.{handle_pairs, IsLarge};
 ghost use Rattle.quantify.specs.Quantified.{after_rows};
 ghost use Rattle.operation_rows.specs.Fitting.{block_trees, MakesRows};
 
-use bdd_ops::{Literal, NodesFull, Op, Store, apply, cube, not};
+use bdd_ops::{BlockCode, NodesFull, Op, Store, apply, at_once, code_cube};
 use mon_base::Steps;
 use node_table::{Block, Handle};
 use quantify::{BlockFull, quantify_block};
@@ -37,22 +39,47 @@ pub fn leaf_row(store: &Store, roots: &[Handle]) -> Result<Handle, RowFull>
     Ok(store.table().zero())
 }
 
-/// The row of an atom that matches the event: a cube. The levels of the literals ascend.
-pub fn cube_row<L: Ledger>(
+/// The row of an atom that matches the event: the cube of the codes of its variables' blocks. The blocks ascend.
+pub fn code_cube_row<L: Ledger>(
     store: &mut Store,
-    literals: &[Literal],
+    codes: &[BlockCode],
     roots: &[Handle],
     steps: &mut Steps<L>,
 ) -> Result<Handle, RowFull>
-    requires ascending { AscendFrom 0 literals.now }
+    requires ascending { AscendFrom 0 (code_list_literals codes.now) }
+    requires levels { All HasLevels codes.now }
     requires roots { AllValid store.old.table roots.now }
-    ensures made { MakesRows (cube_tree literals.now ∷ []) (cube_tree literals.now) roots.now store.old.table store.new.table result }
+    ensures made { MakesRows (cube_tree (code_list_literals codes.now) ∷ []) (cube_tree (code_list_literals codes.now)) roots.now store.old.table store.new.table result }
     ensures cost { steps.new ≡ steps.old }
     ensures entries { store.new.memo.entries ≡ store.old.memo.entries }
 {
-    match cube(store, literals, roots, steps) {
+    match code_cube(store, codes, roots, steps) {
         Ok(made) => Ok(made),
         Err(NodesFull) => Err(RowFull { row: 1 }),
+    }
+}
+
+/// The operation on two trees. Where an operand is a leaf, or both are one, it is mostly answered at once, and then
+/// nothing changes.
+fn operate<L: Ledger>(
+    store: &mut Store,
+    op: Op,
+    u: Handle,
+    v: Handle,
+    roots: &[Handle],
+    steps: &mut Steps<L>,
+) -> Result<Handle, NodesFull>
+    requires left { IsValid store.old.table u }
+    requires right { IsValid store.old.table v }
+    requires roots { AllValid store.old.table roots.now }
+    ensures made { Operates (op_tree op store.old.table u v) (u ∷ (v ∷ [])) roots.now store.old.table store.new.table result }
+    ensures cost { IsLarge store.old → steps.new ≤ steps.old + 6 * handle_pairs store.old.table }
+    ensures entries { store.new.memo.entries ≡ store.old.memo.entries }
+{
+    let _held = store.live();
+    match at_once(store.table(), op, u, v) {
+        Some(known) => Ok(known),
+        None => apply(store, op, u, v, roots, steps),
     }
 }
 
@@ -69,7 +96,8 @@ pub fn not_row<L: Ledger>(
     ensures cost { IsLarge store.old → steps.new ≤ steps.old + 6 * handle_pairs store.old.table }
     ensures entries { store.new.memo.entries ≡ store.old.memo.entries }
 {
-    match not(store, h, roots, steps) {
+    let one = store.table().one();
+    match operate(store, Op::AndNot, one, h, roots, steps) {
         Ok(made) => Ok(made),
         Err(NodesFull) => Err(RowFull { row: 1 }),
     }
@@ -91,7 +119,7 @@ pub fn operation_row<L: Ledger>(
     ensures cost { IsLarge store.old → steps.new ≤ steps.old + 6 * handle_pairs store.old.table }
     ensures entries { store.new.memo.entries ≡ store.old.memo.entries }
 {
-    match apply(store, op, u, v, roots, steps) {
+    match operate(store, op, u, v, roots, steps) {
         Ok(made) => Ok(made),
         Err(NodesFull) => Err(RowFull { row: 1 }),
     }
@@ -116,7 +144,7 @@ pub fn since_rows<L: Ledger>(
     ensures entries { store.new.memo.entries ≡ store.old.memo.entries }
 {
     let first = operation_row(store, Op::And, f, m, roots, steps)?;
-    match apply(store, Op::Or, g, first, roots, steps) {
+    match operate(store, Op::Or, g, first, roots, steps) {
         Ok(made) => Ok(made),
         Err(NodesFull) => Err(RowFull { row: 2 }),
     }
@@ -141,7 +169,7 @@ pub fn interval_rows<L: Ledger>(
     ensures entries { store.new.memo.entries ≡ store.old.memo.entries }
 {
     let first = operation_row(store, Op::Or, f, m, roots, steps)?;
-    match apply(store, Op::AndNot, first, g, roots, steps) {
+    match operate(store, Op::AndNot, first, g, roots, steps) {
         Ok(made) => Ok(made),
         Err(NodesFull) => Err(RowFull { row: 2 }),
     }

@@ -9,9 +9,9 @@ use Rattle.operation_rows.proofs.rows.interval_rows.Goals as goal
 pub returns-in-Ok-clause-made : goal.returns-in-Ok-clause-made
 returns-in-Ok-clause-made g c =
     let g_stays = root_stays c.args.store.now.table c.operation_row.new.store.table c.args.roots.now c.args.g c.in_ok-first.ensures.made.roots_stay c.requires.right in
-    two_ok (apply_tree (truth_of Or) (tree_of c.args.store.now.table c.args.f) (tree_of c.args.store.now.table c.args.m)) (apply_tree (truth_of AndNot) (apply_tree (truth_of Or) (tree_of c.args.store.now.table c.args.f) (tree_of c.args.store.now.table c.args.m)) (tree_of c.args.store.now.table c.args.g)) c.in_ok-first.first c.args.g c.in_ok-first.first c.args.roots.now c.args.store.now.table c.operation_row.new.store.table c.apply.new.store.table c.in_ok-first.ensures.made (inl refl) (inr c.requires.right) (inl refl) c.in-Ok.made c.apply.result c.in-Ok.is (of_trees AndNot c.in_ok-first.first c.args.g (apply_tree (truth_of Or) (tree_of c.args.store.now.table c.args.f) (tree_of c.args.store.now.table c.args.m)) (tree_of c.args.store.now.table c.args.g) c.args.roots.now c.operation_row.new.store.table c.apply.new.store.table c.apply.result c.in_ok-first.ensures.made.is g_stays c.apply.ensures.made)
+    two_ok (apply_tree (truth_of Or) (tree_of c.args.store.now.table c.args.f) (tree_of c.args.store.now.table c.args.m)) (apply_tree (truth_of AndNot) (apply_tree (truth_of Or) (tree_of c.args.store.now.table c.args.f) (tree_of c.args.store.now.table c.args.m)) (tree_of c.args.store.now.table c.args.g)) c.in_ok-first.first c.args.g c.in_ok-first.first c.args.roots.now c.args.store.now.table c.operation_row.new.store.table c.operate.new.store.table c.in_ok-first.ensures.made (inl refl) (inr c.requires.right) (inl refl) c.in-Ok.made c.operate.result c.in-Ok.is (of_trees AndNot c.in_ok-first.first c.args.g (apply_tree (truth_of Or) (tree_of c.args.store.now.table c.args.f) (tree_of c.args.store.now.table c.args.m)) (tree_of c.args.store.now.table c.args.g) c.args.roots.now c.operation_row.new.store.table c.operate.new.store.table c.operate.result c.in_ok-first.ensures.made.is g_stays c.operate.ensures.made)
 
 pub returns-in-Err-clause-made : goal.returns-in-Err-clause-made
 returns-in-Err-clause-made g c =
     let g_stays = root_stays c.args.store.now.table c.operation_row.new.store.table c.args.roots.now c.args.g c.in_ok-first.ensures.made.roots_stay c.requires.right in
-    two_full (apply_tree (truth_of Or) (tree_of c.args.store.now.table c.args.f) (tree_of c.args.store.now.table c.args.m)) (apply_tree (truth_of AndNot) (apply_tree (truth_of Or) (tree_of c.args.store.now.table c.args.f) (tree_of c.args.store.now.table c.args.m)) (tree_of c.args.store.now.table c.args.g)) c.in_ok-first.first c.args.g c.in_ok-first.first c.args.roots.now c.args.store.now.table c.operation_row.new.store.table c.apply.new.store.table c.in_ok-first.ensures.made (inl refl) (inr c.requires.right) (inl refl) c.in-Err.field-0 _ c.apply.result c.in-Err.is refl (of_trees AndNot c.in_ok-first.first c.args.g (apply_tree (truth_of Or) (tree_of c.args.store.now.table c.args.f) (tree_of c.args.store.now.table c.args.m)) (tree_of c.args.store.now.table c.args.g) c.args.roots.now c.operation_row.new.store.table c.apply.new.store.table c.apply.result c.in_ok-first.ensures.made.is g_stays c.apply.ensures.made)
+    two_full (apply_tree (truth_of Or) (tree_of c.args.store.now.table c.args.f) (tree_of c.args.store.now.table c.args.m)) (apply_tree (truth_of AndNot) (apply_tree (truth_of Or) (tree_of c.args.store.now.table c.args.f) (tree_of c.args.store.now.table c.args.m)) (tree_of c.args.store.now.table c.args.g)) c.in_ok-first.first c.args.g c.in_ok-first.first c.args.roots.now c.args.store.now.table c.operation_row.new.store.table c.operate.new.store.table c.in_ok-first.ensures.made (inl refl) (inr c.requires.right) (inl refl) c.in-Err.field-0 _ c.operate.result c.in-Err.is refl (of_trees AndNot c.in_ok-first.first c.args.g (apply_tree (truth_of Or) (tree_of c.args.store.now.table c.args.f) (tree_of c.args.store.now.table c.args.m)) (tree_of c.args.store.now.table c.args.g) c.args.roots.now c.operation_row.new.store.table c.operate.new.store.table c.operate.result c.in_ok-first.ensures.made.is g_stays c.operate.ensures.made)
