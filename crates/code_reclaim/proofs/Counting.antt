@@ -130,6 +130,13 @@ paid_all each before after left rest room c l = (let m = mul-le left each (room 
     turned : (a b : ℕ) → a * b ≡ b * a
     turned a b = omega arith
 
+-- so much for each of some codes
+pub each_code : (size room each after before : ℕ) → after ≤ before + room * (size * each) → after ≤ before + size * (room * each)
+each_code size room each after before c = (let e = swapped size room each in omega (arith, c, e))
+  where
+    swapped : (x y z : ℕ) → y * (x * z) ≡ x * (y * z)
+    swapped x y z = omega arith
+
 -- one part after another
 pub chained : (each before there after left marked rest : ℕ) → there + each * marked ≤ before + each * left → after + each * rest ≤ there + each * marked → after + each * rest ≤ before + each * left
 chained each before there after left marked rest c d = omega (arith, c, d)

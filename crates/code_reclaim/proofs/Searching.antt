@@ -1,6 +1,6 @@
 -- A search below a handle, by marks.
-use Rattle.std.proofs.Common.{◌≡◌, ◌≢◌, ◌⊎◌, ℕ, ◌+◌, ◌-◌, ◌^◌, ◌<◌, ◌≤◌, ◌↔◌, List, cond, refl, ap, sym, ◌∙◌, arith, subst, inl, inr, ⊎_elim}
-use Rattle.std.specs.Prelude.{Bool, true, false, not, ◌||◌, nat_eq, ◌==◌, slice_index_or, Option, None, IsTrue}
+use Rattle.std.proofs.Common.{◌≡◌, ◌≢◌, ◌⊎◌, ℕ, ◌+◌, ◌<◌, ◌≤◌, ◌↔◌, List, map, cond, refl, ap, sym, ◌∙◌, arith, subst, inl, inr, ⊎_elim}
+use Rattle.std.specs.Prelude.{Bool, true, false, ◌||◌, nat_eq, ◌==◌, slice_index_or, Option, None, IsTrue}
 use Rattle.std.proofs.lemmas.Bool.Decides.{eqb_tells}
 use Rattle.node_tree.specs.Tree.{Tree, Branch, tree_eq, top, IsOrderedFrom, IsReduced, depth}
 use Rattle.node_tree.proofs.Same.{Tells, same_tells}
@@ -8,14 +8,13 @@ use Rattle.node_tree.proofs.Joins.{top_from_ordered}
 use Rattle.node_table.specs.declared.node.Node.{Node}
 use Rattle.node_table.specs.Unfold.{tree_at, is_valid}
 use Rattle.node_table.specs.Table.{Table, tree_of, IsValid, is_marked, IsShared}
-use Rattle.bdd_ops.specs.Reading.{set_block}
 use Rattle.code_reclaim.specs.Told.{differs}
 use Rattle.code_reclaim.specs.Search.{HasChildren, IsClear, Searches}
 use Rattle.code_reclaim.proofs.Trees.{differs_branch}
 
 -- ---- handles tell trees
 
-same_numbers : (t : Table) (u v : ℕ) → IsShared t → IsValid t u → IsValid t v → nat_eq u v ≡ tree_eq (tree_of t u) (tree_of t v)
+pub same_numbers : (t : Table) (u v : ℕ) → IsShared t → IsValid t u → IsValid t v → nat_eq u v ≡ tree_eq (tree_of t u) (tree_of t v)
 same_numbers t u v s p q = by_test (eqb_tells u v) (same_tells (tree_of t u) (tree_of t v))
   where
     by_test : ((nat_eq u v ≡ true) × (u ≡ v)) ⊎ ((nat_eq u v ≡ false) × (u ≢ v)) → Tells (tree_eq (tree_of t u) (tree_of t v)) (tree_of t u) (tree_of t v) → nat_eq u v ≡ tree_eq (tree_of t u) (tree_of t v)
@@ -24,20 +23,13 @@ same_numbers t u v s p q = by_test (eqb_tells u v) (same_tells (tree_of t u) (tr
     by_test (inr x) (inl y) = absurd (x.1 (s.one_handle u v p q y.1))
     by_test (inr x) (inr y) = x.0 ∙ sym y.0
 
-pub handles_tell : (first bits code ones : ℕ) (t : Table) (h u v x y : ℕ) → IsShared t → IsValid t u → IsValid t v → x ≡ u → y ≡ v → tree_of t u ≡ set_block first bits code (tree_of t h)
-    → tree_of t v ≡ set_block first bits ones (tree_of t h) → ones ≡ 2 ^ bits - 1 → not (nat_eq x y) ≡ differs first bits code (tree_of t h)
-handles_tell first bits code ones t h u v x y s p q e f a b o =
-    ap (λ (z : ℕ). not (nat_eq z y)) e
-    ∙ ap (λ (z : ℕ). not (nat_eq u z)) f
-    ∙ ap not (same_numbers t u v s p q)
-    ∙ ap (λ z. not (tree_eq z (tree_of t v))) a
-    ∙ ap (λ z. not (tree_eq (set_block first bits code (tree_of t h)) z)) b
-    ∙ ap (λ (z : ℕ). not (tree_eq (set_block first bits code (tree_of t h)) (set_block first bits z (tree_of t h)))) o
-
 -- ---- tables with the same nodes
 
 pub same_tree_of : (t u : Table) → u.nodes ≡ t.nodes → (h : ℕ) → tree_of u h ≡ tree_of t h
 same_tree_of t u e h = ap (λ (ns : List (Option Node)). tree_at (λ k. slice_index_or ns k None) h) e
+
+pub same_trees : (t u : Table) → u.nodes ≡ t.nodes → (hs : List ℕ) → map (tree_of u) hs ≡ map (tree_of t) hs
+same_trees t u e hs = ap (λ (ns : List (Option Node)). map (tree_at (λ k. slice_index_or ns k None)) hs) e
 
 pub same_valid : (t u : Table) → u.nodes ≡ t.nodes → (h : ℕ) → IsValid t h → IsValid u h
 same_valid t u e h v = ap (λ (ns : List (Option Node)). is_valid (λ k. slice_index_or ns k None) h) e ∙ v
@@ -65,6 +57,21 @@ was_marked h old new m = by_mark (is_marked old h) refl
     by_mark : (b : Bool) → is_marked old h ≡ b → b ≡ true
     by_mark true e = refl
     by_mark false e = let f : false ≡ true = m.first_one.1 e in cc
+
+-- ---- a marked node with its children
+
+module _ (h : ℕ) (old mid : Table) (said : Bool) (mark : Marks h old mid said) (first low high : ℕ) (c : HasChildren mid h first low high) where
+  tree_is : tree_of old h ≡ Branch c.at (tree_of old low) (tree_of old high)
+  tree_is = sym (same_tree_of old mid mark.nodes h) ∙ c.tree ∙ ap (λ x. Branch c.at x (tree_of mid high)) (same_tree_of old mid mark.nodes low) ∙ ap (Branch c.at (tree_of old low)) (same_tree_of old mid mark.nodes high)
+
+  pub less_low : depth (tree_of mid low) < depth (tree_of old h)
+  less_low = (let e = ap depth tree_is in let f = ap depth (same_tree_of old mid mark.nodes low) in omega (arith, e, f))
+
+  -- the high child after a walk below the low one
+  pub less_high : (after : Table) → after.nodes ≡ mid.nodes → depth (tree_of after high) < depth (tree_of old h)
+  less_high after same = (let e = ap depth tree_is in let f = ap depth (same_tree_of old after (same ∙ mark.nodes) high) in omega (arith, e, f))
+
+-- ---- a search for one code
 
 module _ (first bits code : ℕ) (h : ℕ) (old mid : Table) (said : Bool) (shared : IsShared old) (valid : IsValid old h) (clear : IsClear (differs first bits code) (top (tree_of old h)) old)
     (mark : Marks h old mid said) where
@@ -94,20 +101,20 @@ module _ (first bits code : ℕ) (h : ℕ) (old mid : Table) (said : Bool) (shar
       }
 
   module _ (low high : ℕ) (fits : first ≤ 65536) (c : HasChildren mid h first low high) where
-    tree_is : tree_of old h ≡ Branch c.at (tree_of old low) (tree_of old high)
-    tree_is = sym (same_tree_of old mid mark.nodes h) ∙ c.tree ∙ ap (λ x. Branch c.at x (tree_of mid high)) (same_tree_of old mid mark.nodes low) ∙ ap (Branch c.at (tree_of old low)) (same_tree_of old mid mark.nodes high)
+    is_branch : tree_of old h ≡ Branch c.at (tree_of old low) (tree_of old high)
+    is_branch = tree_is h old mid said mark first low high c
 
     ordered : IsOrderedFrom 0 (Branch c.at (tree_of old low) (tree_of old high))
-    ordered = subst (IsOrderedFrom 0) tree_is (shared.ordered h valid)
+    ordered = subst (IsOrderedFrom 0) is_branch (shared.ordered h valid)
 
     reduced : IsReduced (Branch c.at (tree_of old low) (tree_of old high))
-    reduced = subst IsReduced tree_is (shared.reduced h valid)
+    reduced = subst IsReduced is_branch (shared.reduced h valid)
 
     splits : test (tree_of old h) ≡ (test (tree_of old low) || test (tree_of old high))
-    splits = ap test tree_is ∙ differs_branch first bits code c.at (tree_of old low) (tree_of old high) c.above ordered.1 reduced
+    splits = ap test is_branch ∙ differs_branch first bits code c.at (tree_of old low) (tree_of old high) c.above ordered.1 reduced
 
     top_is : top (tree_of old h) ≡ c.at
-    top_is = ap top tree_is
+    top_is = ap top is_branch
 
     below_low : c.at + 1 ≤ top (tree_of old low)
     below_low = top_from_ordered (tree_of old low) (c.at + 1) (let l = c.above in omega (arith, l, fits)) ordered.1
@@ -129,9 +136,6 @@ module _ (first bits code : ℕ) (h : ℕ) (old mid : Table) (said : Bool) (shar
         ap test (same_tree_of old mid mark.nodes k)
         ∙ clear_child low below_low k e (subst (λ t. top t ≤ top (tree_of old k)) (same_tree_of old mid mark.nodes low) (subst (λ t. top (tree_of mid low) ≤ top t) (same_tree_of old mid mark.nodes k) l))
 
-    pub less_low : depth (tree_of mid low) < depth (tree_of old h)
-    less_low = (let e = ap depth tree_is in let f = ap depth (same_tree_of old mid mark.nodes low) in omega (arith, e, f))
-
     module _ (after : Table) (found_low : Bool) (one : Searches test low mid after found_low) where
       same_after : after.nodes ≡ old.nodes
       same_after = one.nodes ∙ mark.nodes
@@ -143,11 +147,11 @@ module _ (first bits code : ℕ) (h : ℕ) (old mid : Table) (said : Bool) (shar
       marked_since : found_low ≡ false → (k : ℕ) → is_marked after k ≡ true → (is_marked mid k ≡ true) ⊎ (test (tree_of old k) ≡ false)
       marked_since n k e = ⊎_elim (λ x. inl x) (λ x. inr (ap test (sym (same_tree_of old mid mark.nodes k)) ∙ x)) (one.marks n k e)
 
-      -- the low child differs
-      pub found_below : found_low ≡ true → Searches test h old after true
-      found_below y = record {
-        room = one.room ∙ mark.room;
-        nodes = same_after;
+      -- the low child differs, whatever is searched then
+      pub found_below : found_low ≡ true → (new : Table) → new.room ≡ after.room → new.nodes ≡ after.nodes → Searches test h old new true
+      found_below y new room nodes = record {
+        room = room ∙ one.room ∙ mark.room;
+        nodes = nodes ∙ same_after;
         answer = sym (splits ∙ ap (λ b. b || test (tree_of old high)) (sym low_is ∙ y));
         marks = λ f. absurd (let g : true ≡ false = f in cc);
       }
@@ -159,12 +163,6 @@ module _ (first bits code : ℕ) (h : ℕ) (old mid : Table) (said : Bool) (shar
           (λ x. clear_child high below_high k x (subst (λ t. top t ≤ top (tree_of old k)) (same_tree_of old after same_after high) (subst (λ t. top (tree_of after high) ≤ top t) (same_tree_of old after same_after k) l)))
           (λ x. x)
           (marked_since n k e)
-
-      pub valid_high : IsValid after high
-      valid_high = same_valid mid after one.nodes high c.high_valid
-
-      pub less_high : depth (tree_of after high) < depth (tree_of old h)
-      less_high = (let e = ap depth tree_is in let f = ap depth (same_tree_of old after same_after high) in omega (arith, e, f))
 
       -- the answer is the high child's
       pub found_after : found_low ≡ false → (new : Table) (found : Bool) → Searches test high after new found → Searches test h old new found

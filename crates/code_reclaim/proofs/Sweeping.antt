@@ -1,15 +1,20 @@
 -- A sweep goes through the codes from 0 on.
-use Rattle.std.proofs.Common.{◌≡◌, ℕ, ◌-◌, ◌^◌, ◌<◌, ◌≤◌, cond, refl, ap, sym, ◌∙◌, arith, ⊎_elim}
+use Rattle.std.proofs.Common.{◌≡◌, ℕ, ◌-◌, ◌^◌, ◌≤◌, cond, refl, ap, sym, ◌∙◌, arith, ⊎_elim}
 use Rattle.std.specs.Prelude.{Bool, true, false, Option, Some, None}
 use Rattle.std.proofs.lemmas.Bool.{cases_lt}
 use Rattle.qtl_syntax.specs.Tree.{Text}
 use Rattle.value_codes.specs.Pairs.{Pairs, code_of, value_of, IsPaired, Contents, IsBook}
 use Rattle.value_codes.proofs.Lookups.{code_reads, reads_code}
-use Rattle.code_reclaim.specs.Swept.{kept_code, Keeps}
+use Rattle.code_reclaim.specs.Swept.{kept_code, Keeps, KeepsWithin}
 
--- the codes below n are swept
-abbrev pub KeptBelow : (ℕ → Bool) → ℕ → Pairs → Pairs → Type 0
-KeptBelow kept n before after = (c : ℕ) → ((n ≤ c) → value_of after c ≡ value_of before c) × ((c < n) → value_of after c ≡ cond (kept c) (value_of before c) None)
+-- a range after those below it
+pub swept_on : (kept : ℕ → Bool) (from to : ℕ) (before between after : Pairs) → from ≤ to → KeepsWithin kept 0 from before between → KeepsWithin kept from to between after → KeepsWithin kept 0 to before after
+swept_on kept from to before between after l one two = record {
+  below = λ c m. absurd (omega (arith, m));
+  within = λ c m n.
+      ⊎_elim (λ x. two.below c x ∙ one.within c m x) (λ x. two.within c x n ∙ ap (λ o. cond (kept c) o None) (one.above c x)) (cases_lt c from);
+  above = λ c m. two.above c m ∙ one.above c (omega (arith, l, m));
+}
 
 -- the texts follow the codes
 codes_follow : (kept : ℕ → Bool) (before after : Pairs) → IsPaired before → IsPaired after → ((c : ℕ) → value_of after c ≡ cond (kept c) (value_of before c) None) → (t : Text) → code_of after t ≡ kept_code kept (code_of before t)
@@ -37,7 +42,7 @@ codes_follow kept before after p q v t = by_code (code_of before t) refl
             none (λ d k f. (let g : Some c ≡ Some d = sym e ∙ f in let h : c ≡ d = cc in let j : false ≡ true = sym i ∙ ap kept h ∙ k in cc)) (code_of after t) refl
             ∙ ap (λ b. cond b (Some c) None) (sym i)
 
-pub swept : (kept : ℕ → Bool) (n : ℕ) (before after : Contents) → IsBook before → IsBook after → n ≡ 2 ^ before.bits - 1 → KeptBelow kept n before.pairs after.pairs → Keeps kept before.pairs after.pairs
+pub swept : (kept : ℕ → Bool) (n : ℕ) (before after : Contents) → IsBook before → IsBook after → n ≡ 2 ^ before.bits - 1 → KeepsWithin kept 0 n before.pairs after.pairs → Keeps kept before.pairs after.pairs
 swept kept n before after p q e k = record { values = values; codes = codes_follow kept before.pairs after.pairs p.paired q.paired values }
   where
     free : (c : ℕ) → n ≤ c → (o : Option Text) → value_of before.pairs c ≡ o → o ≡ None
@@ -49,4 +54,4 @@ swept kept n before after p q e k = record { values = values; codes = codes_foll
     both false o f = f
 
     values : (c : ℕ) → value_of after.pairs c ≡ cond (kept c) (value_of before.pairs c) None
-    values c = ⊎_elim (λ l. (k c).1 l) (λ l. (k c).0 l ∙ both (kept c) (value_of before.pairs c) (free c l (value_of before.pairs c) refl)) (cases_lt c n)
+    values c = ⊎_elim (λ l. k.within c (omega arith) l) (λ l. k.above c l ∙ both (kept c) (value_of before.pairs c) (free c l (value_of before.pairs c) refl)) (cases_lt c n)

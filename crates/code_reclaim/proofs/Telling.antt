@@ -1,9 +1,9 @@
 -- What the trees of a list tell apart.
 use Rattle.std.proofs.Common.{◌≡◌, ◌≢◌, ℕ, zero, suc, ◌+◌, ◌-◌, ◌^◌, ◌<◌, ◌≤◌, ◌↔◌, List, [], ◌∷◌, length, map, take, refl, ap, sym, ◌∙◌, arith, subst, inl, inr, ⊎_elim}
-use Rattle.std.specs.Prelude.{Bool, true, false, not, ◌||◌, slice_index_or, IsTrue}
+use Rattle.std.specs.Prelude.{Bool, true, false, not, ◌||◌, ◌&&◌, slice_index_or, IsTrue}
 use Rattle.std.specs.List.{list_any}
 use Rattle.std.proofs.lemmas.List.{take_all}
-use Rattle.std.proofs.lemmas.List.Folds.{Any-from_list_any, list_any-from_Any, list_any_at, list_any_more}
+use Rattle.std.proofs.lemmas.List.Folds.{Any-from_list_any, list_any-from_Any, list_any_more}
 use Rattle.node_tree.specs.Tree.{Tree, tree_eq, value, IsOrdered, IsReduced}
 use Rattle.node_tree.proofs.Same.{Tells, same_tells}
 use Rattle.node_tree.proofs.Apart.{same_or_differ}
@@ -12,8 +12,10 @@ use Rattle.node_table.specs.Collects.{AllValid}
 use Rattle.bdd_ops.specs.Reading.{set_block, with_code}
 use Rattle.bdd_ops.proofs.Walks.{set_block-value}
 use Rattle.code_reclaim.specs.Told.{differs, told_apart, IsToldApart}
-use Rattle.code_reclaim.specs.Search.{Searches}
+use Rattle.code_reclaim.specs.Candidates.{is_candidate}
+use Rattle.code_reclaim.specs.Search.{Strikes}
 use Rattle.code_reclaim.proofs.Searching.{same_tree_of}
+use Rattle.code_reclaim.proofs.Walking.{not_not, was_candidate}
 use Rattle.code_reclaim.proofs.Trees.{block_ordered, block_reduced}
 
 -- some bits tell a tree's two settings apart
@@ -44,12 +46,6 @@ any_of : (p : Tree → Bool) (f : ℕ → Tree) (hs : List ℕ) → list_any p (
 any_of p f [] = refl
 any_of p f (h ∷ hs) = ap (λ b. p (f h) || b) (any_of p f hs)
 
-pub told_none : (t : Table) (hs : List ℕ) (first bits code : ℕ) → list_any (λ h. differs first bits code (tree_of t h)) hs ≡ false → told_apart (map (tree_of t) hs) first bits code ≡ false
-told_none t hs first bits code e = any_of (differs first bits code) (tree_of t) hs ∙ e
-
-pub told_some : (t : Table) (hs : List ℕ) (first bits code : ℕ) → list_any (λ h. differs first bits code (tree_of t h)) hs ≡ true → told_apart (map (tree_of t) hs) first bits code ≡ true
-told_some t hs first bits code e = any_of (differs first bits code) (tree_of t) hs ∙ e
-
 -- trees of valid handles are ordered and reduced
 trees_sound : (t : Table) → IsShared t → (hs : List ℕ) → AllValid t hs → (P : Tree → Type 0) → ((h : ℕ) → IsValid t h → P (tree_of t h)) → (k : ℕ) (x : Tree) → k < length (map (tree_of t) hs) → slice_index_or (map (tree_of t) hs) k x ≡ x → P x
 trees_sound t s [] v P f k x l e = absurd (omega (arith, l))
@@ -76,28 +72,40 @@ told_values t s hs v first bits code found e = (
   ),
 )
 
--- a search of one of the handles found something
-pub told_here : (t u : Table) (hs : List ℕ) (i h first bits code : ℕ) (found : Bool) → u.nodes ≡ t.nodes → i < length hs → h ≡ slice_index_or hs i h → found ≡ differs first bits code (tree_of u h) → found ≡ true →
-    true ≡ told_apart (map (tree_of t) hs) first bits code
-told_here t u hs i h first bits code found n l e a f =
-    let here : differs first bits code (tree_of t (slice_index_or hs i h)) ≡ true =
-    ap (λ (k : ℕ). differs first bits code (tree_of t k)) (sym e) ∙ ap (differs first bits code) (sym (same_tree_of t u n h)) ∙ sym a ∙ f in
-    sym (told_some t hs first bits code (list_any_at (λ k. differs first bits code (tree_of t k)) hs i h l here))
+-- one more handle's tree strikes what it tells apart
+by_parts : (start first here before after : Bool) → before ≡ (start && not first) → (before ≡ false → after ≡ false) → (before ≡ true → not after ≡ here) → after ≡ (start && not (first || here))
+by_parts false first here before after e f g = f e
+by_parts true true here before after e f g = f e
+by_parts true false here before after e f g = sym (not_not after) ∙ ap not (g e)
 
--- none of the first ones, nor this one
-pub none_more : (t u : Table) (hs : List ℕ) (i h first bits code : ℕ) (found : Bool) → u.nodes ≡ t.nodes → i < length hs → h ≡ slice_index_or hs i h → found ≡ differs first bits code (tree_of u h) → found ≡ false →
-    list_any (λ k. differs first bits code (tree_of t k)) (take i hs) ≡ false → list_any (λ k. differs first bits code (tree_of t k)) (take (i + 1) hs) ≡ false
-none_more t u hs i h first bits code found n l e a f none =
-    let here : differs first bits code (tree_of t (slice_index_or hs i h)) ≡ false =
-    ap (λ (k : ℕ). differs first bits code (tree_of t k)) (sym e) ∙ ap (differs first bits code) (sym (same_tree_of t u n h)) ∙ sym a ∙ f in
-    list_any_more (λ k. differs first bits code (tree_of t k)) hs i h l ∙ ap (λ b. b || differs first bits code (tree_of t (slice_index_or hs i h))) none ∙ here
+pub struck_more : (t u new : Table) (hs : List ℕ) (i h first bits from : ℕ) (start before after : List Bool) → u.nodes ≡ t.nodes → i < length hs → h ≡ slice_index_or hs i h → Strikes first bits from h u new before after →
+    ((j : ℕ) → is_candidate before j ≡ (is_candidate start j && not (list_any (λ k. differs first bits (from + j) (tree_of t k)) (take i hs)))) →
+    (j : ℕ) → is_candidate after j ≡ (is_candidate start j && not (list_any (λ k. differs first bits (from + j) (tree_of t k)) (take (i + 1) hs)))
+struck_more t u new hs i h first bits from start before after n l e s was j =
+    by_parts (is_candidate start j) (list_any (λ k. differs first bits (from + j) (tree_of t k)) (take i hs)) (differs first bits (from + j) (tree_of t (slice_index_or hs i h))) (is_candidate before j) (is_candidate after j)
+    (was j) (s.others j)
+    (λ f. (s.codes j f).answer ∙ ap (differs first bits (from + j)) (same_tree_of t u n h) ∙ ap (λ (k : ℕ). differs first bits (from + j) (tree_of t k)) e)
+    ∙ ap (λ b. is_candidate start j && not b) (sym (list_any_more (λ k. differs first bits (from + j) (tree_of t k)) hs i h l))
 
--- what is marked after one more search that found nothing
-pub marks_more : (old new : Table) (h first bits code : ℕ) (found : Bool) → Searches (differs first bits code) h old new found → found ≡ false →
-    ((k : ℕ) → is_marked old k ≡ true → differs first bits code (tree_of old k) ≡ false) → (k : ℕ) → is_marked new k ≡ true → differs first bits code (tree_of new k) ≡ false
-marks_more old new h first bits code found s f marks k e =
-    ap (differs first bits code) (same_tree_of old new s.nodes k) ∙ ⊎_elim (λ x. marks k x) (λ x. x) (s.marks f k e)
+-- what is marked tells no candidate apart
+pub marks_more : (old new : Table) (h first bits from : ℕ) (before after : List Bool) → Strikes first bits from h old new before after →
+    ((j : ℕ) → is_candidate before j ≡ true → (k : ℕ) → is_marked old k ≡ true → differs first bits (from + j) (tree_of old k) ≡ false) →
+    (j : ℕ) → is_candidate after j ≡ true → (k : ℕ) → is_marked new k ≡ true → differs first bits (from + j) (tree_of new k) ≡ false
+marks_more old new h first bits from before after s marks j f k e =
+    let was = was_candidate before after s.others j f in
+    ap (differs first bits (from + j)) (same_tree_of old new s.nodes k) ∙ ⊎_elim (λ x. marks j was k x) (λ x. x) ((s.codes j was).marks (ap not f) k e)
 
-pub told_at_end : (t : Table) (hs : List ℕ) (i first bits code : ℕ) → length hs ≤ i → list_any (λ k. differs first bits code (tree_of t k)) (take i hs) ≡ false → false ≡ told_apart (map (tree_of t) hs) first bits code
-told_at_end t hs i first bits code l none =
-    sym (told_none t hs first bits code (sym (ap (λ (ks : List ℕ). list_any (λ k. differs first bits code (tree_of t k)) ks) (take_all i hs l)) ∙ none))
+-- and all the trees strike what some tree tells apart
+pub struck_at_end : (t : Table) (hs : List ℕ) (i first bits from : ℕ) (start after : List Bool) → length hs ≤ i →
+    ((j : ℕ) → is_candidate after j ≡ (is_candidate start j && not (list_any (λ k. differs first bits (from + j) (tree_of t k)) (take i hs)))) →
+    (j : ℕ) → is_candidate after j ≡ (is_candidate start j && not (told_apart (map (tree_of t) hs) first bits (from + j)))
+struck_at_end t hs i first bits from start after l was j =
+    was j
+    ∙ ap (λ (ks : List ℕ). is_candidate start j && not (list_any (λ k. differs first bits (from + j) (tree_of t k)) ks)) (take_all i hs l)
+    ∙ ap (λ b. is_candidate start j && not b) (sym (any_of (differs first bits (from + j)) (tree_of t) hs))
+
+-- a list of one candidate
+pub told_of_one : (t : Table) (hs : List ℕ) (first bits code : ℕ) (after : List Bool) →
+    ((j : ℕ) → is_candidate after j ≡ (is_candidate (true ∷ []) j && not (told_apart (map (tree_of t) hs) first bits (code + j)))) → not (is_candidate after 0) ≡ told_apart (map (tree_of t) hs) first bits code
+told_of_one t hs first bits code after s =
+    ap not (s 0) ∙ not_not (told_apart (map (tree_of t) hs) first bits (code + 0)) ∙ ap (told_apart (map (tree_of t) hs) first bits) (let e : code + 0 ≡ code = omega arith in e)

@@ -1,3 +1,4 @@
 pub mod Told
+pub mod Candidates
 pub mod Search
 pub mod Swept

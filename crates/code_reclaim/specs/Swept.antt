@@ -1,5 +1,5 @@
 -- What a sweep leaves of a book.
-use Rattle.std.specs.Prelude.{◌≡◌, ℕ, Bool, ◌||◌, List, Option, Some, None, nat_eq, if◌then◌else◌}
+use Rattle.std.specs.Prelude.{◌≡◌, ℕ, ◌<◌, ◌≤◌, Bool, ◌||◌, List, Option, Some, None, nat_eq, if◌then◌else◌}
 use Rattle.std.specs.List.{list_any}
 use Rattle.qtl_syntax.specs.Tree.{Text}
 use Rattle.node_tree.specs.Tree.{Tree}
@@ -23,3 +23,9 @@ kept_code kept (Some c) = if kept c then Some c else None
 pub record Keeps (kept : ℕ → Bool) (before after : Pairs) : Type 0 where
   pub values : (c : ℕ) → value_of after c ≡ (if kept c then value_of before c else None)
   pub codes : (t : Text) → code_of after t ≡ kept_code kept (code_of before t)
+
+-- so they are within a range of codes, and elsewhere as before
+pub record KeepsWithin (kept : ℕ → Bool) (from to : ℕ) (before after : Pairs) : Type 0 where
+  pub below : (c : ℕ) → c < from → value_of after c ≡ value_of before c
+  pub within : (c : ℕ) → from ≤ c → c < to → value_of after c ≡ (if kept c then value_of before c else None)
+  pub above : (c : ℕ) → to ≤ c → value_of after c ≡ value_of before c

@@ -2,6 +2,7 @@
 
 #![tactic(auto)]
 
+mod entry;
 mod reclaim;
 mod search;
 #[cfg(test)]

@@ -1,6 +1,7 @@
-//! Small tables worked out by hand: a tree of the codes of two bits below one level, and a book of three texts.
+//! Small tables worked out by hand: a tree of the codes of two bits below one level with a book of three texts, and
+//! trees of pairs of codes of four bits with a book of fifteen.
 
-ghost use Rattle.std.specs.Prelude.{◌≡◌, ◌<◌, ⊤, MatchOption};
+ghost use Rattle.std.specs.Prelude.{◌≡◌, ◌<◌, ◌≤◌, ⊤, MatchOption};
 ghost use Rattle.node_table.specs.Table.{IsValid};
 
 use crate::{is_told_apart, sweep};
@@ -145,6 +146,104 @@ fn codes_told_apart_stay(rt: HostRuntime) -> Result<(), Fail> {
             swept::<Brand>(rt.alloc(), low, high, needed, Blank::new(1))?,
             Some(expected),
             "{low:?} {high:?}"
+        );
+    }
+    Ok(())
+}
+
+/// The tree that holds also where the levels 0 to 3 have one code and the levels 4 to 7 another one.
+fn with_pair<L: Ledger>(
+    store: &mut Store,
+    tree: Handle,
+    pair: (u32, u32),
+    steps: &mut Steps<L>,
+) -> Option<Handle>
+    requires { IsValid store.old.table tree }
+    ensures { MatchOption result ⊤ (λ h. IsValid store.new.table h) }
+{
+    let (x, y) = pair;
+    let literals = [
+        at(0, x & 8 != 0),
+        at(1, x & 4 != 0),
+        at(2, x & 2 != 0),
+        at(3, x & 1 != 0),
+        at(4, y & 8 != 0),
+        at(5, y & 4 != 0),
+        at(6, y & 2 != 0),
+        at(7, y & 1 != 0),
+    ];
+    let Ok(u) = cube(store, &literals, &[tree], steps) else {
+        return None;
+    };
+    apply(store, Op::Or, tree, u, &[], steps).ok()
+}
+
+/// Over the tree of some pairs: how many of fifteen codes a sweep takes back for the block at a level, and which are
+/// left, a bit for each.
+fn left<L: Ledger>(
+    alloc: Global,
+    pairs: &[(u32, u32)],
+    first: u16,
+    needed: &[u32],
+    blank: Blank,
+) -> Result<Option<(u32, u32)>, AllocError>
+    requires first { first ≤ 4 }
+    requires name { blank.name ≡ L.name }
+    requires parts { blank.parts ≡ L.parts }
+    requires some { 0 < L.parts }
+{
+    let mut steps = Steps::<L>::new(blank);
+    let mut book = Book::open(alloc, 4)?;
+    for name in [
+        "a", "b", "c", "d", "e", "f", "g", "h", "i", "j", "k", "l", "m", "n", "o",
+    ] {
+        if !give(alloc, &mut book, name)? {
+            return Ok(None);
+        }
+    }
+    let mut store = Store::open(alloc, 256, 1024)?;
+    let mut tree = store.table().zero();
+    for pair in pairs {
+        let Some(next) = with_pair(&mut store, tree, *pair, &mut steps) else {
+            return Ok(None);
+        };
+        tree = next;
+    }
+    let block = Block { first, bits: 4 };
+    let count = sweep(
+        store.table_mut(),
+        &[tree],
+        block,
+        &mut book,
+        needed,
+        &mut steps,
+    );
+    let mut codes = 0;
+    for code in 0..15 {
+        if book.value_of(code).is_some() {
+            codes |= 1u32 << code;
+        }
+    }
+    Ok(Some((count, codes)))
+}
+
+#[test]
+fn codes_of_two_variables(rt: HostRuntime) -> Result<(), Fail> {
+    let none: &[u32] = &[];
+    let some: &[(u32, u32)] = &[(0, 3), (1, 5), (2, 3), (14, 9)];
+    let with_ones: &[(u32, u32)] = &[(0, 15), (1, 5)];
+    for (pairs, first, needed, expected) in [
+        (some, 4, none, (12, 1 << 3 | 1 << 5 | 1 << 9)),
+        (some, 4, &[7], (11, 1 << 3 | 1 << 5 | 1 << 7 | 1 << 9)),
+        (some, 0, none, (11, 1 << 0 | 1 << 1 | 1 << 2 | 1 << 14)),
+        (with_ones, 4, none, (0, (1 << 15) - 1)),
+        (with_ones, 0, none, (13, 1 << 0 | 1 << 1)),
+        (&[], 0, none, (15, 0)),
+    ] {
+        assert_eq!(rt;
+            left::<Brand>(rt.alloc(), pairs, first, needed, Blank::new(1))?,
+            Some(expected),
+            "{pairs:?} {first}"
         );
     }
     Ok(())
