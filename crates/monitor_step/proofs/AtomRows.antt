@@ -1,8 +1,9 @@
 -- The literals of an atom's row.
-use Rattle.std.proofs.Common.{◌≡◌, ℕ, zero, suc, ◌+◌, ◌-◌, ◌*◌, ◌/◌, ◌%◌, ◌<◌, ◌≤◌, refl, sym, ap, ◌∙◌, subst, arith, List, [], ◌∷◌, ◌++◌, length, length-append, append_assoc, true, false, Some, None, add-one}
+use Rattle.std.proofs.Common.{◌≡◌, ℕ, zero, suc, ◌+◌, ◌*◌, ◌<◌, ◌≤◌, refl, sym, ap, ◌∙◌, subst, arith, List, [], ◌∷◌, ◌++◌, length, append_assoc, append-nil, true, false, Some, None, add-one}
 use Rattle.std.proofs.Math.Nat.{mul_comm, mul-suc, mul-le-mul_right}
 use Rattle.monitor_step.specs.Serving.{pairs_at}
-use Rattle.std.specs.Prelude.{Result, Ok, Err, IsErrAnd, get_or, nat_eq, if◌then◌else◌}
+use Rattle.std.specs.List.{All}
+use Rattle.std.specs.Prelude.{Option, Result, Ok, Err, IsErrAnd, get_or, nat_eq, if◌then◌else◌}
 use Rattle.qtl_truth.specs.declared.event.Event.{Event}
 use Rattle.qtl_truth.specs.declared.matching.Place.{Place}
 use Rattle.qtl_truth.specs.declared.numbered_atom.Atom.{Atom}
@@ -18,25 +19,25 @@ use Rattle.monitor_step.specs.declared.subformula_rows.RowEnd.{RowEnd}
 use Rattle.monitor_step.specs.declared.subformula_rows.RowEnd.TheVariants as row_end
 use Rattle.bdd_ops.specs.declared.literals.Literal.{Literal}
 use Rattle.value_codes.specs.Pairs.{Pairs, Contents}
-use Rattle.monitor_step.specs.Blocks.{code_literals, literal_at}
+use Rattle.bdd_ops.specs.Codes.{code_literals, block_code_literals, code_list_literals}
+use Rattle.bdd_ops.specs.declared.code_cubes.BlockCode.{BlockCode}
 use Rattle.monitor_step.specs.Rows.{event_code, block_literals, event_literals, atom_tree}
 
--- one bit more of a code
-bit_more : (first n c : ℕ) (old more : List Literal) → more ≡ old ++ code_literals first n (c / 2) →
-    more ++ literal_at (first + n) (nat_eq (c % 2) 1) ∷ [] ≡ old ++ code_literals first (suc n) c
-bit_more first n c old more e =
-    ap (λ ls. ls ++ literal_at (first + n) (nat_eq (c % 2) 1) ∷ []) e ∙ append_assoc old (code_literals first n (c / 2)) (literal_at (first + n) (nat_eq (c % 2) 1) ∷ [])
+-- the literals of one code more
+pub codes_more : (cs : List BlockCode) (c : BlockCode) → code_list_literals (cs ++ c ∷ []) ≡ code_list_literals cs ++ block_code_literals c
+codes_more [] c = append-nil (block_code_literals c)
+codes_more (d ∷ cs) c = ap (λ ls. block_code_literals d ++ ls) (codes_more cs c) ∙ sym (append_assoc (block_code_literals d) (code_list_literals cs) (block_code_literals c))
 
-pub code_more : (first bits c : ℕ) (old more : List Literal) → 1 ≤ bits → more ≡ old ++ code_literals first (bits - 1) (c / 2) →
-    more ++ literal_at (first + (bits - 1)) (nat_eq (c % 2) 1) ∷ [] ≡ old ++ code_literals first bits c
-code_more first bits c old more l e =
-    let s : suc (bits - 1) ≡ bits = omega (arith, l) in
-    subst (λ (n : ℕ). more ++ literal_at (first + (bits - 1)) (nat_eq (c % 2) 1) ∷ [] ≡ old ++ code_literals first n c) s (bit_more first (bits - 1) c old more e)
+-- what one code has, all of a list of it have
+pub all_one : (P : BlockCode → Type 0) (c : BlockCode) → P c → All P (c ∷ [])
+all_one P c p zero d l = p
+all_one P c p (suc k) d l = absurd (omega (arith, l))
 
-pub length_code : (first n c : ℕ) → length (code_literals first n c) ≡ n
-length_code first zero c = refl
-length_code first (suc n) c =
-    let e = length-append (code_literals first n (c / 2)) (literal_at (first + n) (nat_eq (c % 2) 1) ∷ []) in let r = length_code first n (c / 2) in omega (arith, e, r)
+-- those of a variable's block
+pub block_is : (width x code : ℕ) (c : BlockCode) (o : Option ℕ) → c.block.first ≡ x * width → c.block.bits ≡ width → c.code ≡ code → o ≡ Some code → block_code_literals c ≡ block_literals width x o
+block_is width x code c o first bits same given =
+    ap (λ (f : ℕ). code_literals f c.block.bits c.code) first ∙ ap (λ (n : ℕ). code_literals (x * width) n c.code) bits ∙ ap (code_literals (x * width) width) same
+    ∙ ap (block_literals width x) (sym given)
 
 -- the argument of a place is one of the event's
 pub arg_below : (n : ℕ) (ps : List Place) (x k : ℕ) → ArgsBelow n ps → arg_at ps x ≡ Some k → k < n
@@ -70,9 +71,14 @@ pub unmatched : (width : ℕ) (books : ℕ → Pairs) (variables : ℕ) (e : Eve
 unmatched width books variables e a h = rw (no_binding a e h) refl
 
 -- one that fits it has the cube of the codes
-pub matched : (width : ℕ) (books : ℕ → Pairs) (variables : ℕ) (e : Event) (a : Atom) (b : List Place) → Binds a e b →
+matched : (width : ℕ) (books : ℕ → Pairs) (variables : ℕ) (e : Event) (a : Atom) (b : List Place) → Binds a e b →
     atom_tree width books variables e a ≡ cube_tree (event_literals width books variables e a)
 matched width books variables e a b h = rw (binding_fits a e b h) refl
+
+-- that is the cube of a list of codes that has its literals
+pub matched_codes : (width : ℕ) (books : ℕ → Pairs) (variables : ℕ) (e : Event) (a : Atom) (b : List Place) (codes items : List BlockCode) → codes ≡ items →
+    code_list_literals items ≡ event_literals width books variables e a → Binds a e b → atom_tree width books variables e a ≡ cube_tree (code_list_literals codes)
+matched_codes width books variables e a b codes items same literals binds = matched width books variables e a b binds ∙ ap cube_tree (sym (ap code_list_literals same ∙ literals))
 
 -- an answer over a tree that is another one's name
 pub same_rows : (t u : Tree) (roots : List ℕ) (old new : Table) (r : Result ℕ RowFull) → t ≡ u → MakesRows (t ∷ []) t roots old new r → MakesRows (u ∷ []) u roots old new r

@@ -15,7 +15,8 @@ use Rattle.bdd_ops.specs.declared.literals.Literal.{Literal}
 use Rattle.bdd_ops.specs.Cube.{all_hold, AscendFrom}
 use Rattle.monitor_step.specs.Drawn.{spelled}
 use Rattle.monitor_step.specs.Operations.{SameOutside, IsSomeOfBlock, IsEachOfBlock}
-use Rattle.monitor_step.specs.Blocks.{AreRows, literal_at, code_literals}
+use Rattle.bdd_ops.specs.Codes.{literal_at, code_literals}
+use Rattle.monitor_step.specs.Blocks.{AreRows}
 use Rattle.monitor_step.proofs.Bits.{digit}
 use Rattle.monitor_step.proofs.Rows.{and_iff, or_iff}
 

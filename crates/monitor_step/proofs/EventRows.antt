@@ -1,5 +1,5 @@
 -- The rows of one subformula more.
-use Rattle.std.proofs.Common.{◌≡◌, ℕ, zero, suc, ◌+◌, ◌-◌, ◌*◌, ◌<◌, ◌≤◌, ◌⊎◌, inl, inr, ⊎_elim, refl, sym, ap, ◌∙◌, subst, arith, List, [], ◌∷◌, ◌++◌, length, length-append, append_assoc, map, take, get_or, Bool, true, false, Some, IsTrue}
+use Rattle.std.proofs.Common.{◌≡◌, ℕ, zero, suc, ◌+◌, ◌-◌, ◌*◌, ◌<◌, ◌≤◌, ◌⊎◌, inl, inr, ⊎_elim, refl, sym, ap, ◌∙◌, subst, arith, List, [], ◌∷◌, ◌++◌, length, length-append, append_assoc, map, take, get_or, Bool, true, false, Some}
 use Rattle.std.proofs.Math.Nat.{add-mul, mul-le-mul_right}
 use Rattle.node_table.specs.Collects.{AllValid}
 use Rattle.bdd_ops.proofs.Tries.{same_map}
@@ -11,8 +11,6 @@ use Rattle.std.proofs.lemmas.List.Sums.{count_by_more_yes, count_by_more_no, sum
 use Rattle.std.proofs.Math.Seq.{take-append_seam, get_or-append_seam}
 use Rattle.std.proofs.lemmas.Option.{slice_get-get_or, slice_get_within}
 use Rattle.qtl_truth.specs.declared.numbered_atom.Atom.{Atom}
-use Rattle.subformulas.specs.declared.table.Kind.{Kind}
-use Rattle.subformulas.specs.declared.table.Kind.TheVariants as kind
 use Rattle.subformulas.specs.declared.table.Sub.{Sub}
 use Rattle.subformulas.specs.Memory.{is_temporal}
 use Rattle.subformulas.specs.Table.{children, AreChildren, IsTable}

@@ -5,15 +5,13 @@ use Rattle.std.proofs.lemmas.List.{length-take-le}
 use Rattle.std.proofs.lemmas.Option.{slice_get_within}
 use Rattle.qtl_truth.specs.declared.event.Event.{Event}
 use Rattle.qtl_truth.specs.declared.numbered_atom.Atom.{Atom}
-use Rattle.subformulas.specs.declared.table.Kind.{Kind}
-use Rattle.subformulas.specs.declared.table.Kind.TheVariants as kind
 use Rattle.subformulas.specs.declared.table.Sub.{Sub}
 use Rattle.subformulas.specs.Memory.{is_temporal, IsTemporal}
 use Rattle.subformulas.proofs.Plain.{some_is}
 use Rattle.value_codes.specs.Pairs.{Pairs}
 use Rattle.node_tree.specs.Tree.{Tree}
 use Rattle.operation_rows.specs.Fitting.{row_size}
-use Rattle.monitor_step.specs.Rows.{rows_of_kind, result_of, tree_at, rows_after, tree_after, trees_from}
+use Rattle.monitor_step.specs.Rows.{result_of, tree_at, rows_after, tree_after, trees_from}
 use Rattle.monitor_step.specs.Ends.{Sources, sources, memories, first_trees, rows_over, rows_at, kept_at, node_need, NodesFit, IsFirstFull}
 use Rattle.monitor_step.proofs.TreesFrom.{memory_same, result_same, trees_count}
 

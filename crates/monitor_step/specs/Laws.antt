@@ -14,7 +14,8 @@ use Rattle.bdd_ops.specs.Numbers.{truth_of}
 use Rattle.bdd_ops.specs.Cube.{all_hold}
 use Rattle.monitor_step.specs.Books.{SameCodes, IsBook, IsNextBook}
 use Rattle.monitor_step.specs.Operations.{IsSomeOfBlock, IsEachOfBlock}
-use Rattle.monitor_step.specs.Blocks.{AreRows, code_literals}
+use Rattle.bdd_ops.specs.Codes.{code_literals}
+use Rattle.monitor_step.specs.Blocks.{AreRows}
 use Rattle.monitor_step.specs.Drawn.{Draws, spelled, readings}
 use Rattle.monitor_step.specs.Ends.{End, IsEnd}
 use Rattle.monitor_step.specs.Stands.{StandsFor, IsPlan, AreTexts, Stepped, ToldByTrees, IsPoint, first_memory}

@@ -15,9 +15,9 @@ use Rattle.bdd_ops.specs.declared.op.Op.TheVariants.{And, Or, AndNot, Implies, I
 use Rattle.bdd_ops.specs.Numbers.{truth_of}
 use Rattle.bdd_ops.specs.Apply.{map_leaves, apply_tree}
 use Rattle.bdd_ops.specs.declared.literals.Literal.{Literal}
+use Rattle.bdd_ops.specs.Codes.{code_literals}
 use Rattle.bdd_ops.specs.Cube.{cube_tree}
 use Rattle.operation_rows.specs.Fitting.{block_trees}
-use Rattle.monitor_step.specs.Blocks.{code_literals}
 
 -- the code of the text that an event gives to x through an atom
 abbrev pub event_code : (books : ℕ → Pairs) → Event → Atom → (x : ℕ) → Option ℕ

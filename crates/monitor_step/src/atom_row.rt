@@ -1,42 +1,25 @@
 //! The row of an atom: the cube of the codes of the texts that the event gives to its variables.
 
-ghost use Rattle.std.specs.Prelude.{◌≡◌, ◌+◌, ◌*◌, ◌<◌, ◌≤◌, ◌++◌, [], ◌∷◌, length, vec_capacity, IsOk, OnOk, IsErrOf};
+ghost use Rattle.std.specs.Prelude.{◌≡◌, ◌*◌, ◌<◌, ◌≤◌, [], ◌∷◌, length, vec_capacity, IsOk, OnOk, IsErrOf};
+ghost use Rattle.std.specs.List.{All};
 ghost use Rattle.node_table.specs.Table.{tree_of};
 ghost use Rattle.node_table.specs.Collects.{AllValid};
+ghost use Rattle.bdd_ops.specs.Codes.{code_list_literals, HasLevels};
 ghost use Rattle.qtl_truth.specs.Matching.{arg_at, variables_of, Binds};
 ghost use Rattle.monitor_step.specs.Answers.{AnswersRows};
-ghost use Rattle.monitor_step.specs.Blocks.{code_literals};
 ghost use Rattle.monitor_step.specs.Rows.{atom_tree, block_literals, event_code, event_literals};
 ghost use Rattle.monitor_step.specs.Serving.{pairs_at};
 ghost use Rattle.monitor_step.specs.declared.subformula_rows.RowEnd.TheVariants.{NoMemory};
 
-use crate::subformula_rows::RowEnd;
-use bdd_ops::{Literal, Store};
+use crate::subformula_rows::{RowEnd, block_of};
+use bdd_ops::{BlockCode, Store};
 use mon_base::Steps;
 use node_table::Handle;
-use operation_rows::{cube_row, leaf_row};
+use operation_rows::{code_cube_row, leaf_row};
 use qtl_truth::{Atom, Binding, Event, Place, matches};
 use std::alloc::{AllocError, Global};
 use std::sync::ledger::Ledger;
 use value_codes::Book;
-
-/// Adds the literals of a code of so many bits, from a level on, the most significant bit first.
-fn add_code(literals: &mut Vec<Literal>, first: u16, bits: u8, code: u32) -> Result<(), AllocError>
-    requires levels { first + bits ≤ 65536 }
-    ensures items { OnOk result (literals.new.items ≡ literals.old.items ++ code_literals first bits code) }
-    ensures capacity { vec_capacity literals.old ≤ vec_capacity literals.new }
-    ensures room { length literals.old.items + bits ≤ vec_capacity literals.old → IsOk result }
-{
-    if bits == 0 {
-        return Ok(());
-    }
-    add_code(literals, first, bits - 1, code / 2)?;
-    literals.push(Literal {
-        level: first + (bits as u16 - 1),
-        bit: code % 2 == 1,
-    })?;
-    Ok(())
-}
 
 /// The argument of the variable's place, if it has one.
 fn place_of(places: &[Place], variable: u32) -> Option<u32>
@@ -66,33 +49,35 @@ fn code_given(
     book.code_of(&event.args.as_slice()[arg as usize])
 }
 
-/// Adds the literals of the codes of all variables that the event gives a text to, in order.
-fn add_codes(
+/// Lists the codes of all variables that the event gives a text to, in order.
+fn list_codes(
     atom: &Atom,
     binding: &Binding,
     event: &Event,
     books: &[Book],
     bits: u8,
-    literals: &mut Vec<Literal>,
+    codes: &mut Vec<BlockCode>,
 ) -> Result<(), AllocError>
     requires binds { Binds atom.now event.now binding.now }
     requires few_books { length books.now ≤ 64 }
     requires levels { length books.now * bits ≤ 65536 }
-    requires empty { literals.old.items ≡ [] }
-    ensures items { OnOk result (literals.new.items ≡ event_literals bits (pairs_at books.now) (length books.now) event.now atom.now) }
-    ensures capacity { vec_capacity literals.old ≤ vec_capacity literals.new }
-    ensures room { length books.now * bits ≤ vec_capacity literals.old → IsOk result }
+    requires empty { codes.old.items ≡ [] }
+    ensures literals { OnOk result (code_list_literals codes.new.items ≡ event_literals bits (pairs_at books.now) (length books.now) event.now atom.now) }
+    ensures levels { OnOk result (All HasLevels codes.new.items) }
+    ensures capacity { vec_capacity codes.old ≤ vec_capacity codes.new }
+    ensures room { length books.now ≤ vec_capacity codes.old → IsOk result }
 {
     for x in 0..books.len() {
         if let Some(code) = code_given(atom, binding, event, &books[x], x as u32) {
-            add_code(literals, (x * bits as usize) as u16, bits, code)?;
+            let block = block_of(x as u32, bits);
+            codes.push(BlockCode { block, code })?;
         }
     }
     Ok(())
 }
 
-/// The row of an atom. It takes no memory where the atom has at most eight variables and the list of literals has room
-/// for a code of each variable.
+/// The row of an atom. It takes no memory where the atom has at most eight variables and the list of codes has room for one
+/// of each variable.
 pub fn atom_row<L: Ledger>(
     alloc: Global,
     store: &mut Store,
@@ -100,7 +85,7 @@ pub fn atom_row<L: Ledger>(
     event: &Event,
     books: &[Book],
     bits: u8,
-    literals: &mut Vec<Literal>,
+    codes: &mut Vec<BlockCode>,
     roots: &[Handle],
     steps: &mut Steps<L>,
 ) -> Result<Handle, RowEnd>
@@ -112,15 +97,15 @@ pub fn atom_row<L: Ledger>(
     ensures cost { steps.new ≡ steps.old }
     ensures room { store.new.table.room ≡ store.old.table.room }
     ensures entries { store.new.memo.entries ≡ store.old.memo.entries }
-    ensures capacity { vec_capacity literals.old ≤ vec_capacity literals.new }
-    ensures no_memory { length (variables_of atom.now.terms) ≤ 8 → length books.now * bits ≤ vec_capacity literals.old → ¬ IsErrOf result NoMemory }
+    ensures capacity { vec_capacity codes.old ≤ vec_capacity codes.new }
+    ensures no_memory { length (variables_of atom.now.terms) ≤ 8 → length books.now ≤ vec_capacity codes.old → ¬ IsErrOf result NoMemory }
 {
     match matches(alloc, atom, event)? {
         None => Ok(leaf_row(store, roots)?),
         Some(binding) => {
-            literals.clear();
-            add_codes(atom, &binding, event, books, bits, literals)?;
-            Ok(cube_row(store, literals, roots, steps)?)
+            codes.clear();
+            list_codes(atom, &binding, event, books, bits, codes)?;
+            Ok(code_cube_row(store, codes, roots, steps)?)
         }
     }
 }

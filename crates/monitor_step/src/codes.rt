@@ -13,9 +13,10 @@ ghost use Rattle.monitor_step.specs.Books.{without_code};
 ghost use Rattle.monitor_step.specs.Giving.{codes_in, end_at, GivesAll, GivesOne, TakesTooMany};
 ghost use Rattle.monitor_step.specs.Serving.{AllApart, AreServed, IsCodesEnd, IsServed, IsServeEnd, pairs_at};
 
+use bdd_ops::Store;
 use code_reclaim::sweep;
 use mon_base::Steps;
-use node_table::{Block, Handle, NodeTable};
+use node_table::{Block, Handle};
 use qtl_syntax::Text;
 use qtl_truth::Event;
 use std::alloc::AllocError;
@@ -93,7 +94,7 @@ fn list_codes(
 /// Takes back the codes of a variable's texts that are neither told apart nor needed, and says whether the new texts
 /// find free codes then.
 fn make_room<L: Ledger>(
-    table: &mut NodeTable,
+    store: &mut Store,
     remembered: &[Handle],
     block: Block,
     book: &mut Book,
@@ -102,22 +103,25 @@ fn make_room<L: Ledger>(
     steps: &mut Steps<L>,
 ) -> Result<(), CodesEnd>
     requires few { new ≤ 2 ^ 31 }
-    requires valid { AllValid table.old remembered.now }
+    requires valid { AllValid store.old.table remembered.now }
     requires bits { book.old.bits ≡ block.bits }
     requires block { block.first + block.bits ≤ 65536 }
-    ensures swept { Keeps (stays (map (tree_of table.old) remembered.now) block.first block.bits needed_codes.now) book.old.pairs book.new.pairs }
+    ensures swept { Keeps (stays (map (tree_of store.old.table) remembered.now) block.first block.bits needed_codes.now) book.old.pairs book.new.pairs }
     ensures answer { MatchResult result
         (λ _. length book.new.pairs + new < 2 ^ block.bits)
         (λ e. TakesTooMany block.bits (length book.new.pairs + new) e) }
     ensures bits { book.new.bits ≡ book.old.bits }
     ensures sound { IsBook book.new }
-    ensures room { table.new.room ≡ table.old.room }
-    ensures nodes { table.new.nodes ≡ table.old.nodes }
-    ensures kept { KeepsTrees table.old table.new }
-    ensures cost { steps.new ≤ steps.old + (2 ^ block.bits - 1) * ((table.old.room + 2) * (2 * block.bits + 1)) }
+    ensures room { store.new.table.room ≡ store.old.table.room }
+    ensures nodes { store.new.table.nodes ≡ store.old.table.nodes }
+    ensures kept { KeepsTrees store.old.table store.new.table }
+    ensures entries { store.new.memo.entries ≡ store.old.memo.entries }
+    ensures cost { steps.new ≤ steps.old + (2 ^ block.bits - 1) * ((store.old.table.room + 2) * (2 * block.bits + 1)) }
     ensures idle { remembered.now ≡ [] → steps.new ≡ steps.old }
 {
     let _free = book.free_count();
+    // The store forgets its results where the table is lent, so it is lent here alone.
+    let table = store.table_mut();
     sweep(table, remembered, block, book, needed_codes, steps);
     let left = book.free_count();
     if left < new {
@@ -172,7 +176,7 @@ fn give_new(
 /// Gives each text that the entries of a variable name a code, the least free ones in order. Where the new texts are
 /// more than the free codes, the codes of texts that are neither told apart nor needed are taken back first.
 fn serve_variable<L: Ledger>(
-    table: &mut NodeTable,
+    store: &mut Store,
     remembered: &[Handle],
     block: Block,
     entries: &[Need],
@@ -185,19 +189,20 @@ fn serve_variable<L: Ledger>(
     requires args { EntryArgsBelow (length event.now.args) entries.now }
     requires once { AllApart (texts_for variable event.now.args entries.now) }
     requires few { length (texts_for variable event.now.args entries.now) ≤ 2 ^ 31 }
-    requires valid { AllValid table.old remembered.now }
+    requires valid { AllValid store.old.table remembered.now }
     requires bits { book.old.bits ≡ block.bits }
     requires block { block.first + block.bits ≤ 65536 }
     ensures served { MatchResult result
-        (λ _. IsServed (map (tree_of table.old) remembered.now) block.first block.bits (texts_for variable event.now.args entries.now) book.old.pairs book.new.pairs)
-        (λ e. IsCodesEnd (map (tree_of table.old) remembered.now) block.first block.bits (texts_for variable event.now.args entries.now) book.old.pairs e) }
+        (λ _. IsServed (map (tree_of store.old.table) remembered.now) block.first block.bits (texts_for variable event.now.args entries.now) book.old.pairs book.new.pairs)
+        (λ e. IsCodesEnd (map (tree_of store.old.table) remembered.now) block.first block.bits (texts_for variable event.now.args entries.now) book.old.pairs e) }
     ensures no_memory { ((t : TheText) → Has (texts_for variable event.now.args entries.now) t → code_of book.old.pairs t ≢ None) → IsOk result }
     ensures bits { book.new.bits ≡ book.old.bits }
     ensures sound { IsBook book.new }
-    ensures room { table.new.room ≡ table.old.room }
-    ensures nodes { table.new.nodes ≡ table.old.nodes }
-    ensures kept { KeepsTrees table.old table.new }
-    ensures cost { steps.new ≤ steps.old + (2 ^ block.bits - 1) * ((table.old.room + 2) * (2 * block.bits + 1)) }
+    ensures room { store.new.table.room ≡ store.old.table.room }
+    ensures nodes { store.new.table.nodes ≡ store.old.table.nodes }
+    ensures kept { KeepsTrees store.old.table store.new.table }
+    ensures entries { store.new.memo.entries ≡ store.old.memo.entries }
+    ensures cost { steps.new ≤ steps.old + (2 ^ block.bits - 1) * ((store.old.table.room + 2) * (2 * block.bits + 1)) }
     ensures idle { remembered.now ≡ [] → steps.new ≡ steps.old }
 {
     let free = book.free_count();
@@ -207,7 +212,7 @@ fn serve_variable<L: Ledger>(
     }
     if free < new {
         list_codes(entries, variable, event, book, needed_codes)?;
-        make_room(table, remembered, block, book, needed_codes, new, steps)?;
+        make_room(store, remembered, block, book, needed_codes, new, steps)?;
     }
     give_new(entries, variable, event, book)?;
     Ok(())
@@ -241,7 +246,7 @@ fn end_at(variable: u32, end: CodesEnd) -> ServeEnd
 /// Serves the variables in order; the block of variable x has the levels from x times the number of bits on. After an
 /// error the books may hold any part of the event's codes.
 pub fn serve_all<L: Ledger>(
-    table: &mut NodeTable,
+    store: &mut Store,
     remembered: &[Handle],
     bits: u8,
     entries: &[Need],
@@ -254,20 +259,21 @@ pub fn serve_all<L: Ledger>(
     requires args { EntryArgsBelow (length event.now.args) entries.now }
     requires once { (x : ℕ) → x < length books.old → AllApart (texts_for x event.now.args entries.now) }
     requires few { (x : ℕ) → x < length books.old → length (texts_for x event.now.args entries.now) ≤ 2 ^ 31 }
-    requires valid { AllValid table.old remembered.now }
+    requires valid { AllValid store.old.table remembered.now }
     requires bits { AllByRecursion (λ b. b.bits ≡ bits) books.old }
     requires blocks { length books.old * bits ≤ 65536 }
     ensures served { MatchResult result
-        (λ _. AreServed (map (tree_of table.old) remembered.now) bits event.now.args entries.now (length books.old) books.old books.new)
-        (λ e. IsServeEnd (map (tree_of table.old) remembered.now) bits event.now.args entries.now books.old books.new e) }
+        (λ _. AreServed (map (tree_of store.old.table) remembered.now) bits event.now.args entries.now (length books.old) books.old books.new)
+        (λ e. IsServeEnd (map (tree_of store.old.table) remembered.now) bits event.now.args entries.now books.old books.new e) }
     ensures no_memory { ((x : ℕ) (t : TheText) → x < length books.old → Has (texts_for x event.now.args entries.now) t → code_of (pairs_at books.old x) t ≢ None) → IsOk result }
     ensures count { length books.new ≡ length books.old }
     ensures bits { AllByRecursion (λ b. b.bits ≡ bits) books.new }
     ensures sound { OnOk result (AllByRecursion IsBook books.new) }
-    ensures room { table.new.room ≡ table.old.room }
-    ensures nodes { table.new.nodes ≡ table.old.nodes }
-    ensures kept { KeepsTrees table.old table.new }
-    ensures cost { steps.new ≤ steps.old + length books.old * ((2 ^ bits - 1) * ((table.old.room + 2) * (2 * bits + 1))) }
+    ensures room { store.new.table.room ≡ store.old.table.room }
+    ensures nodes { store.new.table.nodes ≡ store.old.table.nodes }
+    ensures kept { KeepsTrees store.old.table store.new.table }
+    ensures entries { store.new.memo.entries ≡ store.old.memo.entries }
+    ensures cost { steps.new ≤ steps.old + length books.old * ((2 ^ bits - 1) * ((store.old.table.room + 2) * (2 * bits + 1))) }
     ensures idle { remembered.now ≡ [] → steps.new ≡ steps.old }
 {
     let mut left = entries;
@@ -281,7 +287,7 @@ pub fn serve_all<L: Ledger>(
             bits,
         };
         let served = serve_variable(
-            table,
+            store,
             remembered,
             block,
             own,

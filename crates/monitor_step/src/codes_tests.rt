@@ -7,7 +7,7 @@ ghost use Rattle.node_table.specs.Table.{IsValid};
 use crate::codes::{ServeEnd, serve_all};
 use bdd_ops::{Literal, Store, cube};
 use mon_base::Steps;
-use node_table::{Handle, NodeTable};
+use node_table::Handle;
 use qtl_syntax::Text;
 use qtl_truth::Event;
 use sqlite_items::Items;
@@ -91,14 +91,14 @@ fn tree<L: Ledger>(
 /// Serves both variables, where the event's one argument or its two unequal ones are needed for one of them.
 fn serve<L: Ledger>(
     alloc: Global,
-    table: &mut NodeTable,
+    store: &mut Store,
     tree: Handle,
     case: &Case,
     event: &Event,
     books: &mut [Book],
     steps: &mut Steps<L>,
 ) -> Option<Result<(), ServeEnd>>
-    requires tree { IsValid table.old tree }
+    requires tree { IsValid store.old.table tree }
     requires books { length books.old ≡ 2 }
     requires bits { AllByRecursion (λ b. b.bits ≡ case.now.bits) books.old }
     ensures { length books.new ≡ 2 }
@@ -115,7 +115,7 @@ fn serve<L: Ledger>(
     let mut codes = Vec::new(alloc);
     if args.len() == 1 {
         return Some(serve_all(
-            table,
+            store,
             &[tree],
             case.bits,
             &[first],
@@ -129,7 +129,7 @@ fn serve<L: Ledger>(
         return None;
     }
     Some(serve_all(
-        table,
+        store,
         &[tree],
         case.bits,
         &[first, second],
@@ -159,8 +159,9 @@ fn is_right<L: Ledger>(alloc: Global, case: &Case, blank: Blank) -> Result<bool,
         book(alloc, case.bits, case.given)?,
         book(alloc, case.bits, case.given)?,
     ];
-    let table = store.table_mut();
-    let answer = serve(alloc, table, tree, case, &event, &mut books, &mut steps);
+    let answer = serve(
+        alloc, &mut store, tree, case, &event, &mut books, &mut steps,
+    );
     let book = &books[case.variable as usize];
     let codes = [
         book.code_of(&text(alloc, "a")?),

@@ -15,7 +15,7 @@ ghost use Rattle.monitor_step.specs.Serving.{pairs_at};
 ghost use Rattle.monitor_step.specs.declared.event_rows.RowsEnd.TheVariants.{NoMemory};
 
 use crate::subformula_rows::{RowEnd, subformula_rows};
-use bdd_ops::{Literal, Store};
+use bdd_ops::{BlockCode, Store};
 use mon_base::Steps;
 use node_table::Handle;
 use operation_rows::RowFull;
@@ -83,7 +83,7 @@ pub fn event_rows<L: Ledger>(
     event: &Event,
     books: &[Book],
     bits: u8,
-    literals: &mut Vec<Literal>,
+    codes: &mut Vec<BlockCode>,
     steps: &mut Steps<L>,
 ) -> Result<(), RowsEnd>
     requires untimed { list_any (λ s. is_timed s.kind) plan.now.subs ≡ false }
@@ -100,8 +100,8 @@ pub fn event_rows<L: Ledger>(
     ensures room { store.new.table.room ≡ store.old.table.room }
     ensures entries { store.new.memo.entries ≡ store.old.memo.entries }
     ensures cost { IsLarge store.old → steps.new ≤ steps.old + sum_by (λ s. rows_of s.kind bits) plan.now.subs * (6 * handle_pairs store.old.table) }
-    ensures capacity { vec_capacity literals.old ≤ vec_capacity literals.new }
-    ensures no_memory { AllByRecursion (λ s. HasFewVariables s.kind) plan.now.subs → length plan.now.variables * bits ≤ vec_capacity literals.old → ¬ IsErrOf result NoMemory }
+    ensures capacity { vec_capacity codes.old ≤ vec_capacity codes.new }
+    ensures no_memory { AllByRecursion (λ s. HasFewVariables s.kind) plan.now.subs → length plan.now.variables ≤ vec_capacity codes.old → ¬ IsErrOf result NoMemory }
 {
     let _nodes = store.live();
     let mut next = 0;
@@ -121,7 +121,7 @@ pub fn event_rows<L: Ledger>(
             event,
             books,
             bits,
-            literals,
+            codes,
             &handles[..done],
             steps,
         ) {

@@ -24,7 +24,7 @@ ghost use Rattle.monitor_step.specs.declared.monitor.StepEnd.TheVariants.{NoMemo
 
 use crate::codes::{ServeEnd, serve_all};
 use crate::event_rows::{RowsEnd, event_rows, is_temporal};
-use bdd_ops::{Literal, Store};
+use bdd_ops::{BlockCode, Store};
 use mon_base::{NoMemory, Steps};
 use node_table::{Block, Handle, NodeTable};
 use qtl_truth::Event;
@@ -108,7 +108,7 @@ pub struct Monitor {
     remembered: usize,
     needs: NeedList,
     needed_codes: Vec<u32>,
-    literals: Vec<Literal>,
+    codes: Vec<BlockCode>,
     /// False from the first event on that could not be judged.
     live: bool,
     events: u64,
@@ -130,7 +130,7 @@ impl Model for Monitor {
         × (m.remembered ≡ temporal_count m.plan.subs)
         × (m.live ≡ true → AllByRecursion IsBook m.books.items)
         × (length m.plan.variables * length m.plan.subs ≤ m.needs.room)
-        × (length m.plan.variables * m.bits ≤ vec_capacity m.literals) };
+        × (length m.plan.variables ≤ vec_capacity m.codes) };
 }
 
 /// How many of the first n subformulas are temporal.
@@ -238,7 +238,7 @@ fn serve_event<L: Ledger>(
     let _count = plan.count();
     needs(alloc, plan, event, list)?;
     serve_all(
-        store.table_mut(),
+        store,
         remembered,
         bits,
         list.entries(),
@@ -308,7 +308,7 @@ impl Monitor {
             remembered,
             needs: NeedList::open(alloc, &plan)?,
             needed_codes: Vec::new(alloc),
-            literals: Vec::with_capacity(alloc, variables * sizes.bits as usize)?,
+            codes: Vec::with_capacity(alloc, variables)?,
             plan,
             live: true,
             events: 0,
@@ -356,7 +356,7 @@ impl Monitor {
             event,
             &self.books,
             self.bits,
-            &mut self.literals,
+            &mut self.codes,
             steps,
         )?;
         remember(&self.plan, &mut self.handles, self.remembered);

@@ -15,7 +15,7 @@ ghost use Rattle.monitor_step.specs.Serving.{pairs_at};
 ghost use Rattle.monitor_step.specs.declared.subformula_rows.RowEnd.TheVariants.{NoMemory};
 
 use crate::atom_row::atom_row;
-use bdd_ops::{Literal, Op, Store};
+use bdd_ops::{BlockCode, Op, Store};
 use mon_base::Steps;
 use node_table::{Block, Handle};
 use operation_rows::{RowFull, interval_rows, not_row, operation_row, quantifier_rows, since_rows};
@@ -56,7 +56,7 @@ impl From<AllocError> for RowEnd {
 }
 
 /// The block of a variable.
-fn block_of(variable: u32, bits: u8) -> Block
+pub fn block_of(variable: u32, bits: u8) -> Block
     requires { variable * bits + bits ≤ 65536 }
     ensures first { result.first ≡ variable * bits }
     ensures bits { result.bits ≡ bits }
@@ -79,7 +79,7 @@ pub fn subformula_rows<L: Ledger>(
     event: &Event,
     books: &[Book],
     bits: u8,
-    literals: &mut Vec<Literal>,
+    codes: &mut Vec<BlockCode>,
     roots: &[Handle],
     steps: &mut Steps<L>,
 ) -> Result<Handle, RowEnd>
@@ -98,16 +98,14 @@ pub fn subformula_rows<L: Ledger>(
     ensures cost { IsLarge store.old → steps.new ≤ steps.old + rows_of kind.now bits * (6 * handle_pairs store.old.table) }
     ensures room { store.new.table.room ≡ store.old.table.room }
     ensures entries { store.new.memo.entries ≡ store.old.memo.entries }
-    ensures capacity { vec_capacity literals.old ≤ vec_capacity literals.new }
-    ensures no_memory { HasFewVariables kind.now → length books.now * bits ≤ vec_capacity literals.old → ¬ IsErrOf result NoMemory }
+    ensures capacity { vec_capacity codes.old ≤ vec_capacity codes.new }
+    ensures no_memory { HasFewVariables kind.now → length books.now ≤ vec_capacity codes.old → ¬ IsErrOf result NoMemory }
 {
     let _held = store.live();
     match kind {
         Kind::True => Ok(store.table().one()),
         Kind::False => Ok(store.table().zero()),
-        Kind::Atom(atom) => atom_row(
-            alloc, store, atom, event, books, bits, literals, roots, steps,
-        ),
+        Kind::Atom(atom) => atom_row(alloc, store, atom, event, books, bits, codes, roots, steps),
         Kind::Not => Ok(not_row(store, f, roots, steps)?),
         Kind::And => Ok(operation_row(store, Op::And, f, g, roots, steps)?),
         Kind::Or => Ok(operation_row(store, Op::Or, f, g, roots, steps)?),

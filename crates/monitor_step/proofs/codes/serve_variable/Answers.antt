@@ -9,7 +9,7 @@ use Rattle.monitor_step.proofs.codes.serve_variable.Goals as goal
 pub returns-then-new-eq0-clause-served : goal.returns-then-new-eq0-clause-served
 returns-then-new-eq0-clause-served g c =
     let needed = texts_for c.args.variable c.args.event.now.args c.args.entries.now in
-    let trees = map (tree_of c.args.table.now) c.args.remembered.now in
+    let trees = map (tree_of c.args.store.now.table) c.args.remembered.now in
     let first = c.args.block.first in
     let width = c.args.block.bits in
     let b = c.args.book.now in
@@ -51,7 +51,7 @@ returns-in_err-give_new-clause-no_memory g c coded =
 pub returns-in_err-make_room-clause-served : goal.returns-in_err-make_room-clause-served
 returns-in_err-make_room-clause-served g c =
     let needed = texts_for c.args.variable c.args.event.now.args c.args.entries.now in
-    let trees = map (tree_of c.args.table.now) c.args.remembered.now in
+    let trees = map (tree_of c.args.store.now.table) c.args.remembered.now in
     let first = c.args.block.first in
     let width = c.args.block.bits in
     let b = c.args.book.now in
@@ -65,7 +65,7 @@ returns-in_err-make_room-clause-served g c =
 pub give_new-requires-clause-room : goal.give_new-requires-clause-room
 give_new-requires-clause-room g c =
     let needed = texts_for c.args.variable c.args.event.now.args c.args.entries.now in
-    let trees = map (tree_of c.args.table.now) c.args.remembered.now in
+    let trees = map (tree_of c.args.store.now.table) c.args.remembered.now in
     let first = c.args.block.first in
     let width = c.args.block.bits in
     let b = c.args.book.now in
@@ -84,7 +84,7 @@ give_new-requires-clause-room g c =
 pub returns-clause-served : goal.returns-clause-served
 returns-clause-served g c =
     let needed = texts_for c.args.variable c.args.event.now.args c.args.entries.now in
-    let trees = map (tree_of c.args.table.now) c.args.remembered.now in
+    let trees = map (tree_of c.args.store.now.table) c.args.remembered.now in
     let first = c.args.block.first in
     let width = c.args.block.bits in
     let b = c.args.book.now in

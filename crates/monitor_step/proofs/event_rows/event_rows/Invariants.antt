@@ -27,5 +27,5 @@ invariant-loop-k g l =
       shared : IsShared l.store.table;
       entries : l.store.memo.entries ≡ l.fn.store.memo.entries;
       cost : IsLarge l.fn.store → l.steps ≤ l.fn.steps + sum_by (λ s. rows_of s.kind l.bits) (take l.k l.plan.subs) * (6 * handle_pairs l.fn.store.table);
-      capacity : vec_capacity l.fn.literals ≤ vec_capacity l.literals;
+      capacity : vec_capacity l.fn.codes ≤ vec_capacity l.codes;
     }

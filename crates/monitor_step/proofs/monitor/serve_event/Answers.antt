@@ -1,8 +1,8 @@
 use Rattle.std.proofs.Common.{◌≤◌, length, List, map, sym, subst, arith}
 use Rattle.qtl_syntax.specs.Tree.{Text}
-use Rattle.node_table.specs.Table.{Table, tree_of}
+use Rattle.node_table.specs.Table.{tree_of}
 use Rattle.subformulas.specs.declared.need_list.Need.{Need}
-use Rattle.monitor_step.specs.Serving.{AllApart, AreServed, IsServeEnd}
+use Rattle.monitor_step.specs.Serving.{AllApart}
 use Rattle.monitor_step.specs.Steps.{AreNeeds}
 use Rattle.monitor_step.proofs.FewNeeds.{few_needs, few_levels}
 use Rattle.monitor_step.proofs.Room.{unrepeated_apart}
@@ -35,8 +35,7 @@ returns-in_err-serve_all-clause-served c c' =
     let e = c'.args.event.now in
     let entries = c'.entries.result.now in
     let texts = subst (λ (ns : List Need). AreNeeds c'.args.plan.now.subs e ns) (sym c'.entries.ensures) c'.in_ok-needs.ensures.texts in
-    let served = subst (λ (t : Table). IsServeEnd (map (tree_of t) c'.args.remembered.now) c'.args.bits e.args entries c'.args.books.now c'.serve_all.new.books c'.in_err-serve_all.field-0.0) c'.table_mut.ensures.value c'.in_err-serve_all.ensures.served in
-    not_served c'.args.bits c'.args.plan.now.subs e (map (tree_of c'.args.store.now.table) c'.args.remembered.now) c'.args.books.now c'.serve_all.new.books entries texts c'.in_err-serve_all.field-0.0 served
+    not_served c'.args.bits c'.args.plan.now.subs e (map (tree_of c'.args.store.now.table) c'.args.remembered.now) c'.args.books.now c'.serve_all.new.books entries texts c'.in_err-serve_all.field-0.0 c'.in_err-serve_all.ensures.served
     c'.from_residual-in_err-serve_all.result c'.from_residual-in_err-serve_all.ensures.1
 
 pub returns-clause-served : goal.returns-clause-served
@@ -45,5 +44,5 @@ returns-clause-served c c' =
     let texts = subst (λ (ns : List Need). AreNeeds c'.args.plan.now.subs e ns) (sym c'.entries.ensures) c'.in_ok-needs.ensures.texts in (
       c'.entries.result.now,
       texts,
-      subst (λ (t : Table). AreServed (map (tree_of t) c'.args.remembered.now) c'.args.bits e.args c'.entries.result.now (length c'.args.books.now) c'.args.books.now c'.serve_all.new.books) c'.table_mut.ensures.value c'.in_ok-serve_all.ensures.served,
+      c'.in_ok-serve_all.ensures.served,
     )

@@ -1,4 +1,4 @@
-use Rattle.std.proofs.Common.{◌≡◌, ◌*◌, ◌≤◌, List, length, map, subst, refl, arith, true}
+use Rattle.std.proofs.Common.{◌≡◌, ◌≤◌, List, length, map, subst, refl, arith, true}
 use Rattle.std.specs.Prelude.{vec_capacity}
 use Rattle.node_table.specs.Table.{Table, tree_of}
 use Rattle.node_table.specs.Collects.{AllValid}
@@ -23,7 +23,7 @@ invariant_of-result-2 c =
       (let e = c.len-remembered.ensures in let f = front m first trees in omega (arith, e, f)),
       λ e. c.in_ok-books.ensures.sound,
       c.in_ok-open.ensures.room,
-      subst (λ (vs : List Variable). length vs * c.args.sizes.bits ≤ vec_capacity c.in_ok-with_capacity.field-0) c.variables-variables.ensures c.in_ok-with_capacity.ensures.capacity,
+      subst (λ (vs : List Variable). length vs ≤ vec_capacity c.in_ok-with_capacity.field-0) c.variables-variables.ensures c.in_ok-with_capacity.ensures.capacity,
     )
 
 pub returns-clause-stands : goal.returns-clause-stands
