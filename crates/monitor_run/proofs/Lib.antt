@@ -4,6 +4,7 @@ mod BodyTold
 mod Complete
 mod Ending
 mod Ends
+mod EventsAsked
 mod Faulted
 mod Given
 mod Judges

@@ -1,6 +1,6 @@
 -- How the steps of events add up, and what stays of a judge.
 use Rattle.std.proofs.Common.{◌≡◌, ℕ, ◌+◌, ◌*◌, ◌≤◌, refl, sym, ◌∙◌, subst, add-one, arith}
-use Rattle.std.proofs.Math.Nat.{mul-suc, mul-le-mul_left}
+use Rattle.std.proofs.Math.Nat.{mul-suc}
 use Rattle.bdd_ops.specs.Shelf.{IsLarge}
 use Rattle.monitor_step.specs.Monitor.{step_bound}
 use Rattle.monitor_run.specs.Judging.{KeepsPlan, Spends}
@@ -43,32 +43,25 @@ spends_one bound from to before now after a b = go (bound * from) (bound * to) (
   go : (x y z : ℕ) → z ≡ y + bound → now + x ≤ before + y → after + x ≤ before + z
   go x y z e a = omega (arith, e, a, b)
 
--- the same within more events
-pub spends_more : (bound from to to' before after : ℕ) → to ≤ to' → Spends bound from to before after → Spends bound from to' before after
-spends_more bound from to to' before after h a = go (bound * from) (bound * to) (bound * to') (mul-le-mul_left bound h) a where
-  go : (x y z : ℕ) → y ≤ z → after + x ≤ before + y → after + x ≤ before + z
-  go x y z h a = omega (arith, h, a)
+-- the last event by another name
+pub spends_to : (bound from to to' before after : ℕ) → to' ≡ to → Spends bound from to before after → Spends bound from to' before after
+spends_to bound from to to' before after same a = subst (λ (n : ℕ). Spends bound from n before after) (sym same) a
 
--- no event, within one more
-pub spends_still : (bound n before : ℕ) → Spends bound n (n + 1) before before
-spends_still bound n before = spends_more bound n n (n + 1) before before (omega arith) (spends_none bound n before)
+-- no event, where as many were given as judged
+pub spends_still : (bound events given before : ℕ) → events ≡ given → Spends bound events given before before
+spends_still bound events given before same = spends_to bound events events given before before (sym same) (spends_none bound events before)
 
--- an event that is judged, and one that can't be
+-- one event more, also where it can't be judged
 last_cost : (i j : Judge) (before now after : ℕ) → KeepsPlan i j → (IsLarge i.monitor.shelf → Spends (step_bound i.monitor) i.events j.events before now) →
     (IsLarge j.monitor.shelf → after ≤ now + step_bound j.monitor) → IsLarge i.monitor.shelf → Spends (step_bound i.monitor) i.events (j.events + 1) before after
 last_cost i j before now after same spent one large =
     spends_one (step_bound i.monitor) i.events j.events before now after (spent large)
     (subst (λ (b : ℕ). after ≤ now + b) (keeps_bound i j same) (one (keeps_large i j same large)))
 
-pub judged_cost : (i j k : Judge) (before now after : ℕ) → KeepsPlan i j → k.events ≡ j.events + 1 → (IsLarge i.monitor.shelf → Spends (step_bound i.monitor) i.events j.events before now) →
-    (IsLarge j.monitor.shelf → after ≤ now + step_bound j.monitor) → IsLarge i.monitor.shelf → Spends (step_bound i.monitor) i.events k.events before after
-judged_cost i j k before now after same count spent one large =
-    subst (λ (n : ℕ). Spends (step_bound i.monitor) i.events n before after) (sym count) (last_cost i j before now after same spent one large)
-
-pub refused_cost : (i j k : Judge) (before now after : ℕ) → KeepsPlan i j → j.events ≤ k.events → (IsLarge i.monitor.shelf → Spends (step_bound i.monitor) i.events j.events before now) →
-    (IsLarge j.monitor.shelf → after ≤ now + step_bound j.monitor) → IsLarge i.monitor.shelf → Spends (step_bound i.monitor) i.events (k.events + 1) before after
-refused_cost i j k before now after same later spent one large =
-    spends_more (step_bound i.monitor) i.events (j.events + 1) (k.events + 1) before after (omega (arith, later)) (last_cost i j before now after same spent one large)
+pub asked_cost : (i j : Judge) (asked before now after : ℕ) → KeepsPlan i j → asked ≡ j.events + 1 → (IsLarge i.monitor.shelf → Spends (step_bound i.monitor) i.events j.events before now) →
+    (IsLarge j.monitor.shelf → after ≤ now + step_bound j.monitor) → IsLarge i.monitor.shelf → Spends (step_bound i.monitor) i.events asked before after
+asked_cost i j asked before now after same count spent one large =
+    spends_to (step_bound i.monitor) i.events (j.events + 1) asked before after count (last_cost i j before now after same spent one large)
 
 -- one call after the other
 pub calls_cost : (i j : Judge) (to before now after : ℕ) → KeepsPlan i j → (IsLarge i.monitor.shelf → Spends (step_bound i.monitor) i.events j.events before now) →

@@ -72,7 +72,7 @@ records_front limit all given rest false log later split short closed first =
     (s.0, ap (λ (c : Cut). c.events) b.2 ∙ s.1)
 
 -- and they are no more than the log has
-few_front : (log more events : List Event) → events ≡ log ++ more → length log ≤ length events
+pub few_front : (log more events : List Event) → events ≡ log ++ more → length log ≤ length events
 few_front log more events is = let n = ap length is in let m = length-append log more in omega (arith, n, m)
 
 -- a fault of the bytes that were given is the log's
@@ -289,24 +289,6 @@ walk_stopped limits items all left sent w1 w2 given ended j r t held held' e num
       subst (λ (n : ℕ). StoppedLog limits items all number why n lines) (sym same) (stopped_log limits items all left sent w1 given ended j r t held e number why w fed count comes),
       subst (λ (x : Option Text). Passes sent x [] held' lines) (sym out) (subst (λ (l : Text). Passes sent w1 [] l lines) (sym kept) w.passed),
     )
-
--- an event that is refused is not counted, and one whose lines can't be written is
-pub refused_later : (j k : Judge) (w1 w2 : Option Text) (held held' : Text) (end : End) → WritesEvent j k w1 w2 held held' (Err end) → j.events ≤ k.events
-refused_later j k w1 w2 held held' WriteFault h = omega (arith, h.0)
-refused_later j k w1 w2 held held' (CodesFull number x need) h = omega (arith, h.0)
-refused_later j k w1 w2 held held' (NodesFull number n row) h = omega (arith, h.0)
-refused_later j k w1 w2 held held' NoMemory h = omega (arith, h.0)
-refused_later j k w1 w2 held held' AllTrue h = omega (arith, h.0)
-refused_later j k w1 w2 held held' (Violated count) h = omega (arith, h.0)
-refused_later j k w1 w2 held held' Usage h = omega (arith, h.0)
-refused_later j k w1 w2 held held' SpecTooLong h = omega (arith, h.0)
-refused_later j k w1 w2 held held' (Spec fault) h = omega (arith, h.0)
-refused_later j k w1 w2 held held' (Names fault) h = omega (arith, h.0)
-refused_later j k w1 w2 held held' NotBuilt h = omega (arith, h.0)
-refused_later j k w1 w2 held held' (Log fault) h = omega (arith, h.0)
-refused_later j k w1 w2 held held' (LogTooLong most) h = omega (arith, h.0)
-refused_later j k w1 w2 held held' (OpenFault which) h = omega (arith, h.0)
-refused_later j k w1 w2 held held' (ReadFault which) h = omega (arith, h.0)
 
 -- the event can't be judged, or its lines can't be written
 pub walk_refused : (limits : Limits) (items : List Item) (all : Text) (left sent w1 w2 : Option Text) (given : Text) (ended : Bool) (j k : Judge) (r t : Reading) (held held' : Text) (e : Event) (end : End) →

@@ -7,6 +7,7 @@ ghost use Rattle.monitor_step.specs.Monitor.{step_bound};
 ghost use Rattle.qtl_syntax.specs.Tree as tree;
 ghost use Rattle.log_reader.specs.Standing.{Stands, fresh_reading};
 ghost use Rattle.monitor_run.specs.Answer.{HasFaultCause, end_of_verdicts};
+ghost use Rattle.monitor_run.specs.Cost.{IsAsked};
 ghost use Rattle.monitor_run.specs.Files.{IsReadingEnd};
 ghost use Rattle.monitor_run.specs.Judging.{IsReady, KeepsPlan, Spends};
 ghost use Rattle.monitor_run.specs.Reading.{LogReached, IsReadEnd};
@@ -107,8 +108,10 @@ fn take_turn<S: Source, W: Sink, L: Ledger>(
     ensures reading { IfErr result (λ end. IsReadingEnd end) }
     ensures later { S.faults source.old ≤ S.faults source.new }
     ensures out_later { W.faults out.old ≤ W.faults out.new }
-    ensures cost { IsLarge judge.old.monitor.shelf → Spends (step_bound judge.old.monitor) judge.old.events (judge.new.events + 1) steps.old steps.new }
-    ensures exact_cost { OnOk result (IsLarge judge.old.monitor.shelf → Spends (step_bound judge.old.monitor) judge.old.events judge.new.events steps.old steps.new) }
+    ensures asked { IfErr result (λ end. (limits : declared.Limits) (items : List tree.Item) (all : tree.Text) (sent : Option tree.Text) (given : tree.Text) →
+        length given + most ≤ limits.log →
+        WalkedAll limits items all (S.left source.old) sent (W.written out.old) given false judge.old reader.old output.old → IsAsked limits all end reader.new.given) }
+    ensures cost { IsLarge judge.old.monitor.shelf → Spends (step_bound judge.old.monitor) judge.old.events reader.new.given steps.old steps.new }
 {
     let count = match fetch(room, source, output, out, most) {
         Ok(count) => count,
@@ -151,11 +154,13 @@ fn end_log<W: Sink, L: Ledger>(
     ensures reached { (limits : declared.Limits) (items : List tree.Item) (all : tree.Text) (left : Option tree.Text) (sent : Option tree.Text) (given : tree.Text) →
         WalkedAll limits items all left sent (W.written out.old) given false judge.old reader.old output.old → IsAtEnd left →
         LogReached limits items all left sent (W.written out.new) output.new result judge.new.events }
+    ensures asked { (limits : declared.Limits) (items : List tree.Item) (all : tree.Text) (left : Option tree.Text) (sent : Option tree.Text) (given : tree.Text) →
+        WalkedAll limits items all left sent (W.written out.old) given false judge.old reader.old output.old → IsAtEnd left → IsAsked limits all result reader.new.given }
     ensures plan { KeepsPlan judge.old judge.new }
     ensures cause { HasFaultCause ⊥ (Rose (W.faults out.old) (W.faults out.new)) result }
     ensures reading { IsReadingEnd result }
     ensures out_later { W.faults out.old ≤ W.faults out.new }
-    ensures cost { IsLarge judge.old.monitor.shelf → Spends (step_bound judge.old.monitor) judge.old.events (judge.new.events + 1) steps.old steps.new }
+    ensures cost { IsLarge judge.old.monitor.shelf → Spends (step_bound judge.old.monitor) judge.old.events reader.new.given steps.old steps.new }
 {
     reader.end();
     match judge_fed(judge, reader, output, out, steps) {
@@ -183,12 +188,14 @@ fn past_limit<S: Source, W: Sink, L: Ledger>(
     ensures reached { (items : List tree.Item) (all : tree.Text) (sent : Option tree.Text) (given : tree.Text) →
         WalkedAll limits items all (S.left source.old) sent (W.written out.old) given false judge.old reader.old output.old → length given ≡ limits.log →
         LogReached limits items all (S.left source.new) sent (W.written out.new) output.new result judge.new.events }
+    ensures asked { (items : List tree.Item) (all : tree.Text) (sent : Option tree.Text) (given : tree.Text) →
+        WalkedAll limits items all (S.left source.old) sent (W.written out.old) given false judge.old reader.old output.old → IsAsked limits all result reader.new.given }
     ensures plan { KeepsPlan judge.old judge.new }
     ensures cause { HasFaultCause (Rose (S.faults source.old) (S.faults source.new)) (Rose (W.faults out.old) (W.faults out.new)) result }
     ensures reading { IsReadingEnd result }
     ensures later { S.faults source.old ≤ S.faults source.new }
     ensures out_later { W.faults out.old ≤ W.faults out.new }
-    ensures cost { IsLarge judge.old.monitor.shelf → Spends (step_bound judge.old.monitor) judge.old.events (judge.new.events + 1) steps.old steps.new }
+    ensures cost { IsLarge judge.old.monitor.shelf → Spends (step_bound judge.old.monitor) judge.old.events reader.new.given steps.old steps.new }
 {
     match fetch(room, source, output, out, 1) {
         Ok(0) => end_log(judge, reader, output, out, steps),
@@ -218,12 +225,13 @@ pub fn read_log<S: Source, W: Sink, L: Ledger>(
     requires small { limits.log ≤ 281474976710656 }
     ensures reached { (items : List tree.Item) (all : tree.Text) → StandsAt limits items [] [] judge.old → S.left source.old ≡ Some all →
         LogReached limits items all (S.left source.new) (W.written out.old) (W.written out.new) output.new result judge.new.events }
+    ensures asked { (items : List tree.Item) (all : tree.Text) → StandsAt limits items [] [] judge.old → S.left source.old ≡ Some all → IsAsked limits all result reader.new.given }
     ensures plan { KeepsPlan judge.old judge.new }
     ensures cause { HasFaultCause (Rose (S.faults source.old) (S.faults source.new)) (Rose (W.faults out.old) (W.faults out.new)) result }
     ensures reading { IsReadingEnd result }
     ensures later { S.faults source.old ≤ S.faults source.new }
     ensures out_later { W.faults out.old ≤ W.faults out.new }
-    ensures cost { IsLarge judge.old.monitor.shelf → Spends (step_bound judge.old.monitor) judge.old.events (judge.new.events + 1) steps.old steps.new }
+    ensures cost { IsLarge judge.old.monitor.shelf → Spends (step_bound judge.old.monitor) judge.old.events reader.new.given steps.old steps.new }
 {
     let mut taken: u64 = 0;
     'pieces: while taken < limits.log {

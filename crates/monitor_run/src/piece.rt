@@ -1,10 +1,11 @@
 //! The records of the bytes that were fed to the reader, judged one by one.
-ghost use Rattle.std.specs.Prelude.{◌≡◌, ◌+◌, ◌≤◌, ℕ, Bool, List, Option, OnOk, IfErr};
+ghost use Rattle.std.specs.Prelude.{◌≡◌, ◌≤◌, ℕ, Bool, List, Option, OnOk, IfErr};
 ghost use Rattle.bdd_ops.specs.Shelf.{IsLarge};
 ghost use Rattle.mon_base.specs.Causes.{Rose};
 ghost use Rattle.monitor_step.specs.Monitor.{step_bound};
 ghost use Rattle.qtl_syntax.specs.Tree as tree;
 ghost use Rattle.monitor_run.specs.Answer.{HasFaultCause};
+ghost use Rattle.monitor_run.specs.Cost.{IsAsked};
 ghost use Rattle.monitor_run.specs.Files.{IsReadingEnd};
 ghost use Rattle.monitor_run.specs.Judging.{IsReady, KeepsPlan, Spends};
 ghost use Rattle.monitor_run.specs.Reading.{LogReached};
@@ -43,8 +44,9 @@ pub fn judge_fed<W: Sink, L: Ledger>(
     ensures cause { IfErr result (λ end. HasFaultCause ⊥ (Rose (W.faults out.old) (W.faults out.new)) end) }
     ensures reading { IfErr result (λ end. IsReadingEnd end) }
     ensures out_later { W.faults out.old ≤ W.faults out.new }
-    ensures cost { IsLarge judge.old.monitor.shelf → Spends (step_bound judge.old.monitor) judge.old.events (judge.new.events + 1) steps.old steps.new }
-    ensures exact_cost { OnOk result (IsLarge judge.old.monitor.shelf → Spends (step_bound judge.old.monitor) judge.old.events judge.new.events steps.old steps.new) }
+    ensures asked { IfErr result (λ end. (limits : declared.Limits) (items : List tree.Item) (all : tree.Text) (left : Option tree.Text) (sent : Option tree.Text) (given : tree.Text) (ended : Bool) →
+        Walked limits items all left sent (W.written out.old) given ended judge.old reader.old output.old → IsAsked limits all end reader.new.given) }
+    ensures cost { IsLarge judge.old.monitor.shelf → Spends (step_bound judge.old.monitor) judge.old.events reader.new.given steps.old steps.new }
 {
     'records: loop {
         match reader.next() {

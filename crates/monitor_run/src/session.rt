@@ -108,7 +108,7 @@ fn run_log<F: Files, W: Sink, L: Ledger>(
     ensures out_later { W.faults out.old ≤ W.faults out.new }
     ensures log_end { IsLogEnd result.end }
     ensures cost { (items : List tree.Item) → StandsAt limits items [] [] judge → IsAmple limits →
-        IfSome (F.texts files.old) (λ texts. CostsAtMost limits items (text_of texts name.now) steps.old steps.new) }
+        IfSome (F.texts files.old) (λ texts. CostsAtMost limits items (text_of texts name.now) result.end steps.old steps.new) }
 {
     let mut judge = judge;
     let mut room = match read_room(alloc) {
@@ -161,7 +161,7 @@ fn two_files<F: Files, W: Sink, L: Ledger>(
     ensures later { F.faults files.old ≤ F.faults files.new }
     ensures out_later { W.faults out.old ≤ W.faults out.new }
     ensures not_usage { result.end ≢ End.Usage }
-    ensures cost { IfSome (F.texts files.old) (λ texts. RunCosts limits texts (spec.now ∷ log.now ∷ []) steps.old steps.new) }
+    ensures cost { IfSome (F.texts files.old) (λ texts. RunCosts limits texts (spec.now ∷ log.now ∷ []) result.end steps.old steps.new) }
 {
     // A law, for the clause `cost`: it does nothing.
     one_answer();
@@ -203,7 +203,7 @@ pub fn session<F: Files, W: Sink, L: Ledger>(
     ensures lent { F.lent files.new ≡ F.lent files.old }
     ensures later { F.faults files.old ≤ F.faults files.new }
     ensures out_later { W.faults out.old ≤ W.faults out.new }
-    ensures cost { IfSome (F.texts files.old) (λ texts. RunCosts limits texts (map string_bytes words.now) steps.old steps.new) }
+    ensures cost { IfSome (F.texts files.old) (λ texts. RunCosts limits texts (map string_bytes words.now) result.end steps.old steps.new) }
 {
     match two_names(words) {
         Some((spec, log)) => two_files(alloc, limits, spec, log, files, output, out, steps),

@@ -35,7 +35,7 @@ fn run_to_end<F: Files, W: Sink, L: Ledger>(
     ensures usage { result ≡ End.Usage → length words.now ≢ 2 }
     ensures other_words { length words.now ≢ 2 → (result ≡ End.Usage) ⊎ ((result ≡ End.WriteFault) ⊎ (result ≡ End.NoMemory)) }
     ensures lent { F.lent files.new ≡ F.lent files.old }
-    ensures cost { IfSome (F.texts files.old) (λ texts. RunCosts limits texts (map string_bytes words.now) steps.old steps.new) }
+    ensures cost { IfSome (F.texts files.old) (λ texts. RunCosts limits texts (map string_bytes words.now) result steps.old steps.new) }
     ensures later { F.faults files.old ≤ F.faults files.new }
     ensures out_later { W.faults out.old ≤ W.faults out.new }
 {
@@ -84,9 +84,9 @@ pub fn run_within<F: Files, W: Sink, L: Ledger>(
     ensures opened { Opens (map string_bytes words.now) result.end (F.opened files.old) (F.opened files.new) }
     ensures hurt { Hurts result.end (F.hurt files.old) (F.hurt files.new) }
 
-    // Each source is closed. Where the cache is ample, each event costs a bounded number of steps.
+    // Each source is closed. Where the cache is ample, each event that is judged or refused costs a bounded number of steps.
     ensures lent { F.lent files.new ≡ F.lent files.old }
-    ensures cost { IfSome (F.texts files.old) (λ texts. RunCosts limits texts (map string_bytes words.now) steps.old steps.new) }
+    ensures cost { IfSome (F.texts files.old) (λ texts. RunCosts limits texts (map string_bytes words.now) result.end steps.old steps.new) }
     ensures later { F.faults files.old ≤ F.faults files.new }
     ensures out_later { W.faults out.old ≤ W.faults out.new }
 {
@@ -117,7 +117,7 @@ pub fn run<F: Files, W: Sink, L: Ledger>(
     ensures opened { Opens (map string_bytes words.now) result.end (F.opened files.old) (F.opened files.new) }
     ensures hurt { Hurts result.end (F.hurt files.old) (F.hurt files.new) }
     ensures lent { F.lent files.new ≡ F.lent files.old }
-    ensures cost { IfSome (F.texts files.old) (λ texts. RunCosts usual texts (map string_bytes words.now) steps.old steps.new) }
+    ensures cost { IfSome (F.texts files.old) (λ texts. RunCosts usual texts (map string_bytes words.now) result.end steps.old steps.new) }
     ensures later { F.faults files.old ≤ F.faults files.new }
     ensures out_later { W.faults out.old ≤ W.faults out.new }
 {

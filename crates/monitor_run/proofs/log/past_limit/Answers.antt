@@ -1,8 +1,9 @@
-use Rattle.std.proofs.Common.{◌≡◌, ℕ, List, [], ◌<◌, ap, subst, take, length, arith}
+use Rattle.std.proofs.Common.{◌≡◌, ℕ, List, [], ◌<◌, ap, subst, take, length, false, arith}
 use Rattle.std.specs.Io.KnownBytes.{Consumes}
 use Rattle.std.proofs.lemmas.List.{length-take-le}
 use Rattle.monitor_step.specs.Monitor.{step_bound}
 use Rattle.monitor_run.proofs.Ends.{cause_more, rose_after}
+use Rattle.monitor_run.proofs.EventsAsked.{read_asked, walked_few}
 use Rattle.monitor_run.proofs.Spending.{keeps_none, spends_still}
 use Rattle.monitor_run.proofs.Walks.{read_long, read_reached, walked_same}
 use Rattle.monitor_run.proofs.log.past_limit.Goals as goal
@@ -33,10 +34,25 @@ pub returns-in-Ok-clause-plan : goal.returns-in-Ok-clause-plan
 returns-in-Ok-clause-plan g c = keeps_none c.args.judge.now
 
 pub returns-in-Ok-clause-cost : goal.returns-in-Ok-clause-cost
-returns-in-Ok-clause-cost g c large = spends_still (step_bound c.args.judge.now.monitor) c.args.judge.now.events c.args.steps.now
+returns-in-Ok-clause-cost g c large = spends_still (step_bound c.args.judge.now.monitor) c.args.judge.now.events c.args.reader.now.given c.args.steps.now c.requires.events
+
+pub returns-in-Ok-clause-asked : goal.returns-in-Ok-clause-asked
+returns-in-Ok-clause-asked g c items all sent given a =
+    walked_few c.args.limits items all _ sent _ given false c.args.judge.now c.args.reader.now c.args.reader.now c.args.output.now a.walked.log a.walked a.walked.fed
 
 pub returns-in-Err-clause-plan : goal.returns-in-Err-clause-plan
 returns-in-Err-clause-plan g c = keeps_none c.args.judge.now
 
 pub returns-in-Err-clause-cost : goal.returns-in-Err-clause-cost
-returns-in-Err-clause-cost g c large = spends_still (step_bound c.args.judge.now.monitor) c.args.judge.now.events c.args.steps.now
+returns-in-Err-clause-cost g c large = spends_still (step_bound c.args.judge.now.monitor) c.args.judge.now.events c.args.reader.now.given c.args.steps.now c.requires.events
+
+pub returns-in-Err-clause-asked : goal.returns-in-Err-clause-asked
+returns-in-Err-clause-asked g c items all sent given a =
+    read_asked c.args.limits items all _ _ sent _ _ given c.args.judge.now c.args.reader.now c.args.output.now c.fetch.new.output c.in-Err.end a c.in-Err.ensures.failed
+
+pub returns-in-Ok-eq0-clause-asked : goal.returns-in-Ok-eq0-clause-asked
+returns-in-Ok-eq0-clause-asked g c items all sent given a =
+    let o = c.in-Ok-eq0.ensures in
+    let none : take c.in-Ok-eq0.field-0 c.fetch.new.room ≡ [] = ap (λ (n : ℕ). take n c.fetch.new.room) c.in-Ok-eq0.field-0-test in
+    c.end_log.ensures.asked c.args.limits items all _ sent given
+    (walked_same c.args.limits items all _ _ sent _ _ given c.args.judge.now c.args.reader.now c.args.output.now c.fetch.new.output a (subst (λ (l : List ℕ). Consumes (g.S.Source.left c.args.source.now) (g.S.Source.left c.fetch.new.source) l) none o.taken) o.sent.0 o.sent.1) (o.ended c.in-Ok-eq0.field-0-test)

@@ -1,7 +1,7 @@
 use Rattle.std.proofs.Common.{◌∙◌, ◌+◌, ◌++◌, [], sym, refl, ap, length-append, arith}
 use Rattle.monitor_step.specs.Monitor.{step_bound}
 use Rattle.monitor_run.proofs.Given.{is_fed_start}
-use Rattle.monitor_run.proofs.Spending.{calls_cost, keeps_none, keeps_trans, spends_none}
+use Rattle.monitor_run.proofs.Spending.{calls_cost, keeps_none, keeps_trans, spends_none, spends_to}
 use Rattle.monitor_run.proofs.Walks.{walked_start}
 use Rattle.monitor_run.proofs.log.read_log.Goals as goal
 
@@ -43,10 +43,18 @@ returns-in-Ok-eq0-clause-plan g c =
 
 pub returns-in-Ok-eq0-clause-cost : goal.returns-in-Ok-eq0-clause-cost
 returns-in-Ok-eq0-clause-cost g c =
-    calls_cost c.args.judge.now c.take_turn.new.judge (c.end_log.new.judge.events + 1) c.args.steps.now c.take_turn.new.steps c.end_log.new.steps
+    calls_cost c.args.judge.now c.take_turn.new.judge c.end_log.new.reader.given c.args.steps.now c.take_turn.new.steps c.end_log.new.steps
     (keeps_trans c.args.judge.now c.pieces.judge c.take_turn.new.judge c.pieces.invariant.plan c.take_turn.ensures.plan)
-    (calls_cost c.args.judge.now c.pieces.judge c.take_turn.new.judge.events c.args.steps.now c.pieces.steps c.take_turn.new.steps c.pieces.invariant.plan c.pieces.invariant.cost c.in-Ok-eq0.ensures.exact_cost)
+    (calls_cost c.args.judge.now c.pieces.judge c.take_turn.new.judge.events c.args.steps.now c.pieces.steps c.take_turn.new.steps c.pieces.invariant.plan c.pieces.invariant.cost
+    (λ large. spends_to (step_bound c.pieces.judge.monitor) c.pieces.judge.events c.take_turn.new.reader.given c.take_turn.new.judge.events c.pieces.steps c.take_turn.new.steps c.in-Ok-eq0.ensures.events (c.take_turn.ensures.cost large)))
     c.end_log.ensures.cost
+
+pub returns-in-Ok-eq0-clause-asked : goal.returns-in-Ok-eq0-clause-asked
+returns-in-Ok-eq0-clause-asked g c items all s is =
+    let w = c.pieces.invariant.walked items all s is in
+    let o = c.in-Ok-eq0.ensures in
+    let t = o.ok c.args.limits items all _ w.0 (let n = c.pieces.invariant.within in omega (arith, n, w.1)) w.2 in
+    c.end_log.ensures.asked c.args.limits items all _ _ (w.0 ++ t.0) t.2 (o.ended c.in-Ok-eq0.field-0-test)
 
 pub returns-in-Err-clause-reached : goal.returns-in-Err-clause-reached
 returns-in-Err-clause-reached g c items all s is =
@@ -58,7 +66,12 @@ returns-in-Err-clause-plan g c = keeps_trans c.args.judge.now c.pieces.judge c.t
 
 pub returns-in-Err-clause-cost : goal.returns-in-Err-clause-cost
 returns-in-Err-clause-cost g c =
-    calls_cost c.args.judge.now c.pieces.judge (c.take_turn.new.judge.events + 1) c.args.steps.now c.pieces.steps c.take_turn.new.steps c.pieces.invariant.plan c.pieces.invariant.cost c.take_turn.ensures.cost
+    calls_cost c.args.judge.now c.pieces.judge c.take_turn.new.reader.given c.args.steps.now c.pieces.steps c.take_turn.new.steps c.pieces.invariant.plan c.pieces.invariant.cost c.take_turn.ensures.cost
+
+pub returns-in-Err-clause-asked : goal.returns-in-Err-clause-asked
+returns-in-Err-clause-asked g c items all s is =
+    let w = c.pieces.invariant.walked items all s is in
+    c.in-Err.ensures.asked c.args.limits items all _ w.0 (let n = c.pieces.invariant.within in omega (arith, n, w.1)) w.2
 
 pub pieces-preserved : goal.pieces-preserved
 pieces-preserved g c =
@@ -77,7 +90,8 @@ pieces-preserved g c =
       within = omega (arith, o.most, i.within);
       later = omega (arith, c.take_turn.ensures.later, i.later);
       out_later = omega (arith, c.take_turn.ensures.out_later, i.out_later);
-      cost = calls_cost c.args.judge.now c.pieces.judge c.take_turn.new.judge.events c.args.steps.now c.pieces.steps c.take_turn.new.steps i.plan i.cost o.exact_cost;
+      cost = calls_cost c.args.judge.now c.pieces.judge c.take_turn.new.judge.events c.args.steps.now c.pieces.steps c.take_turn.new.steps i.plan i.cost
+          (λ large. spends_to (step_bound c.pieces.judge.monitor) c.pieces.judge.events c.take_turn.new.reader.given c.take_turn.new.judge.events c.pieces.steps c.take_turn.new.steps o.events (c.take_turn.ensures.cost large));
     }
 
 pub returns-clause-reached : goal.returns-clause-reached
@@ -90,4 +104,9 @@ returns-clause-plan g c = keeps_trans c.args.judge.now c.pieces.judge c.past_lim
 
 pub returns-clause-cost : goal.returns-clause-cost
 returns-clause-cost g c =
-    calls_cost c.args.judge.now c.pieces.judge (c.past_limit.new.judge.events + 1) c.args.steps.now c.pieces.steps c.past_limit.new.steps c.pieces.invariant.plan c.pieces.invariant.cost c.past_limit.ensures.cost
+    calls_cost c.args.judge.now c.pieces.judge c.past_limit.new.reader.given c.args.steps.now c.pieces.steps c.past_limit.new.steps c.pieces.invariant.plan c.pieces.invariant.cost c.past_limit.ensures.cost
+
+pub returns-clause-asked : goal.returns-clause-asked
+returns-clause-asked g c items all s is =
+    let w = c.pieces.invariant.walked items all s is in
+    c.past_limit.ensures.asked items all _ w.0 w.2

@@ -1,12 +1,13 @@
-use Rattle.std.proofs.Common.{◌∙◌, ◌+◌, ℕ, refl, arith}
+use Rattle.std.proofs.Common.{◌∙◌, ◌++◌, ◌∷◌, [], ℕ, refl, sym, arith}
 use Rattle.monitor_step.specs.Monitor.{step_bound}
 use Rattle.monitor_run.specs.Standing.{IsFed, IsFedWithin}
 use Rattle.monitor_run.proofs.Ends.{cause_more, rose_after, log_cause, log_reading}
 use Rattle.monitor_run.proofs.Faulted.{fault_reached}
 use Rattle.monitor_run.proofs.Given.{fed_event, fed_still, fed_all, fed_fault, few_fed, given_more, given_still, is_fed_event, is_fed_still, is_fed_within}
-use Rattle.monitor_run.proofs.Spending.{judged_cost, keeps_none, keeps_trans, refused_cost, spends_more, spends_none}
+use Rattle.monitor_run.proofs.EventsAsked.{fault_asked, refused_asked, walked_few}
+use Rattle.monitor_run.proofs.Spending.{asked_cost, keeps_none, keeps_trans, spends_none, spends_to}
 use Rattle.monitor_run.proofs.Times.{fed_time}
-use Rattle.monitor_run.proofs.Walks.{refused_later, walked_event, walked_all, walk_refused}
+use Rattle.monitor_run.proofs.Walks.{walked_event, walked_all, walk_refused}
 use Rattle.monitor_run.proofs.piece.judge_fed.Goals as goal
 
 pub records-init : goal.records-init
@@ -66,8 +67,20 @@ returns-in-Err-judge_event-clause-out_later g c = omega (arith, c.judge_event.en
 
 pub returns-in-Err-judge_event-clause-cost : goal.returns-in-Err-judge_event-clause-cost
 returns-in-Err-judge_event-clause-cost g c =
-    refused_cost c.args.judge.now c.records.judge c.judge_event.new.judge c.args.steps.now c.records.steps c.judge_event.new.steps c.records.invariant.plan
-    (refused_later c.records.judge c.judge_event.new.judge _ _ c.records.output c.judge_event.new.output c.in-Err-judge_event.end c.in-Err-judge_event.ensures.written) c.records.invariant.cost c.judge_event.ensures.cost
+    let one = given_more c.in-Ok-Some.field-0 c.in-Ok-Some.event c.records.reader.given c.next.new.self.given c.in-Ok-Some.field-0-is c.in-Ok-Some.ensures.given in
+    asked_cost c.args.judge.now c.records.judge c.next.new.self.given c.args.steps.now c.records.steps c.judge_event.new.steps c.records.invariant.plan
+    (omega (arith, one, c.records.invariant.events)) c.records.invariant.cost c.judge_event.ensures.cost
+
+pub returns-in-Err-judge_event-clause-asked : goal.returns-in-Err-judge_event-clause-asked
+returns-in-Err-judge_event-clause-asked g c limits items all left sent given ended walked =
+    let w = c.records.invariant.walked limits items all left sent given ended walked in
+    let e = c.in-Ok-Some.ensures in
+    let t = c.next.new.self in
+    let fed = fed_event given ended w.log c.records.reader t c.in-Ok-Some.field-0 c.in-Ok-Some.event c.in-Ok-Some.field-0-is w.fed (e.answer given w.fed.stands) (e.stands given w.fed.stands) e.timed e.ended e.given in
+    let one = given_more c.in-Ok-Some.field-0 c.in-Ok-Some.event c.records.reader.given t.given c.in-Ok-Some.field-0-is e.given in
+    refused_asked limits all c.records.judge c.judge_event.new.judge w.log c.in-Ok-Some.event c.in-Err-judge_event.end t.given
+    (c.in-Err-judge_event.ensures.judged w.log w.stands.events w.stands.stands) (omega (arith, one, c.records.invariant.events))
+    (walked_few limits items all left sent _ given ended c.records.judge c.records.reader t c.records.output (w.log ++ c.in-Ok-Some.event ∷ []) w fed)
 
 pub records-smaller : goal.records-smaller
 records-smaller g c =
@@ -98,7 +111,7 @@ records-preserved g c =
       ready = j.ready;
       plan = keeps_trans c.args.judge.now c.records.judge c.judge_event.new.judge i.plan j.plan;
       later = omega (arith, j.out_later, i.later);
-      cost = judged_cost c.args.judge.now c.records.judge c.judge_event.new.judge c.args.steps.now c.records.steps c.judge_event.new.steps i.plan j.written.0 i.cost j.cost;
+      cost = asked_cost c.args.judge.now c.records.judge c.judge_event.new.judge.events c.args.steps.now c.records.steps c.judge_event.new.steps i.plan j.written.0 i.cost j.cost;
     }
 
 pub returns-in-Ok-None-clause-ok : goal.returns-in-Ok-None-clause-ok
@@ -131,10 +144,8 @@ returns-in-Ok-None-clause-out_later g c = c.records.invariant.later
 
 pub returns-in-Ok-None-clause-cost : goal.returns-in-Ok-None-clause-cost
 returns-in-Ok-None-clause-cost g c large =
-    spends_more (step_bound c.args.judge.now.monitor) c.args.judge.now.events c.records.judge.events (c.records.judge.events + 1) c.args.steps.now c.records.steps (omega arith) (c.records.invariant.cost large)
-
-pub returns-in-Ok-None-clause-exact_cost : goal.returns-in-Ok-None-clause-exact_cost
-returns-in-Ok-None-clause-exact_cost g c large = c.records.invariant.cost large
+    let same = given_still c.in-Ok-None.field-0 c.records.reader.given c.next.new.self.given c.in-Ok-None.field-0-is c.in-Ok-None.ensures.given in
+    spends_to (step_bound c.args.judge.now.monitor) c.args.judge.now.events c.records.judge.events c.next.new.self.given c.args.steps.now c.records.steps (omega (arith, same, c.records.invariant.events)) (c.records.invariant.cost large)
 
 pub returns-in-Err-clause-err : goal.returns-in-Err-clause-err
 returns-in-Err-clause-err g c limits items all left sent given ended walked =
@@ -156,4 +167,11 @@ returns-in-Err-clause-out_later g c = c.records.invariant.later
 
 pub returns-in-Err-clause-cost : goal.returns-in-Err-clause-cost
 returns-in-Err-clause-cost g c large =
-    spends_more (step_bound c.args.judge.now.monitor) c.args.judge.now.events c.records.judge.events (c.records.judge.events + 1) c.args.steps.now c.records.steps (omega arith) (c.records.invariant.cost large)
+    spends_to (step_bound c.args.judge.now.monitor) c.args.judge.now.events c.records.judge.events c.next.new.self.given c.args.steps.now c.records.steps (c.in-Err.ensures.given ∙ sym c.records.invariant.events) (c.records.invariant.cost large)
+
+pub returns-in-Err-clause-asked : goal.returns-in-Err-clause-asked
+returns-in-Err-clause-asked g c limits items all left sent given ended walked =
+    let w = c.records.invariant.walked limits items all left sent given ended walked in
+    let few = walked_few limits items all left sent _ given ended c.records.judge c.records.reader c.records.reader c.records.output w.log w w.fed in
+    let same = c.in-Err.ensures.given in
+    rw c.into.ensures (fault_asked limits all c.in-Err.fault c.next.new.self.given (omega (arith, same, few)))

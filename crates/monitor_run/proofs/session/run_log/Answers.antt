@@ -1,6 +1,7 @@
 use Rattle.monitor_run.specs.Files.{IsLastOf}
 use Rattle.monitor_run.proofs.Asked.{asked_kept, one_asked, gains_told, given_no_err, stays_told}
 use Rattle.monitor_run.proofs.BodyTold.{opened_told, starved_told, reached_log}
+use Rattle.monitor_run.proofs.EventsAsked.{reached_asked}
 use Rattle.monitor_run.proofs.Namings.{reached_named}
 use Rattle.monitor_run.proofs.RunCosts.{opened_cost, unopened_cost}
 use Rattle.monitor_run.proofs.session.run_log.Goals as goal
@@ -10,14 +11,14 @@ returns-in-Err-clause-told g c items stands =
     rw c.early.ensures (starved_told c.args.limits (g.F.Files.texts c.args.files.now) c.args.name.now items (λ rest. IsLastOf (g.F.Files.unread c.args.files.now) (g.F.Files.unread c.args.files.now) rest) _ c.args.output.now c.requires.nothing)
 
 pub returns-in-Err-clause-cost : goal.returns-in-Err-clause-cost
-returns-in-Err-clause-cost g c items stands ample = unopened_cost c.args.limits (g.F.Files.texts c.args.files.now) c.args.name.now items c.args.steps.now
+returns-in-Err-clause-cost g c items stands ample = unopened_cost c.args.limits (g.F.Files.texts c.args.files.now) c.args.name.now items _ c.args.steps.now
 
 pub returns-in-Err-open-clause-told : goal.returns-in-Err-open-clause-told
 returns-in-Err-open-clause-told g c items stands =
     rw c.early-in-Err-open.ensures (starved_told c.args.limits (g.F.Files.texts c.args.files.now) c.args.name.now items (λ rest. IsLastOf (g.F.Files.unread c.args.files.now) (g.F.Files.unread c.args.files.now) rest) _ c.args.output.now c.requires.nothing)
 
 pub returns-in-Err-open-clause-cost : goal.returns-in-Err-open-clause-cost
-returns-in-Err-open-clause-cost g c items stands ample = unopened_cost c.args.limits (g.F.Files.texts c.args.files.now) c.args.name.now items c.args.steps.now
+returns-in-Err-open-clause-cost g c items stands ample = unopened_cost c.args.limits (g.F.Files.texts c.args.files.now) c.args.name.now items _ c.args.steps.now
 
 pub returns-in-Ok-open-2-clause-told : goal.returns-in-Ok-open-2-clause-told
 returns-in-Ok-open-2-clause-told g c items stands =
@@ -35,5 +36,6 @@ returns-in-Ok-open-2-clause-opened g c =
 
 pub returns-in-Ok-open-2-clause-cost : goal.returns-in-Ok-open-2-clause-cost
 returns-in-Ok-open-2-clause-cost g c items stands ample =
-    opened_cost c.args.limits (g.F.Files.texts c.args.files.now) c.args.name.now items c.args.judge _ _ _ _ _ c.read_log-end.result c.args.judge.events c.read_log-end.new.judge.events _ _ stands ample c.requires.events
-    c.in-Ok-open-2.ensures.text (λ all is. c.read_log-end.ensures.reached items all stands is) c.read_log-end.ensures.cost
+    opened_cost c.args.limits (g.F.Files.texts c.args.files.now) c.args.name.now items c.args.judge _ c.reached_at.result.end c.args.judge.events c.read_log-end.new.reader.given _ _ stands ample c.requires.events
+    c.in-Ok-open-2.ensures.text
+    (λ all is. reached_asked c.args.limits all c.read_log-end.new.judge c.read_log-end.result c.reached_at.result c.read_log-end.new.reader.given c.reached_at.ensures (c.read_log-end.ensures.asked items all stands is)) c.read_log-end.ensures.cost

@@ -25,4 +25,4 @@ pub returns-in-None-clause-named : goal.returns-in-None-clause-named
 returns-in-None-clause-named g c = rw c.early.ensures (use_named (g.F.Files.texts c.args.files.now) (map string_bytes c.args.words.now) _)
 
 pub returns-in-None-clause-cost : goal.returns-in-None-clause-cost
-returns-in-None-clause-cost g c = unread_cost c.args.limits (g.F.Files.texts c.args.files.now) (map string_bytes c.args.words.now) c.args.steps.now
+returns-in-None-clause-cost g c = unread_cost c.args.limits (g.F.Files.texts c.args.files.now) (map string_bytes c.args.words.now) _ c.args.steps.now

@@ -32,7 +32,7 @@ returns-in-Ok-clause-cost g c =
       one_specification = c.one_answer.ensures.one_specification;
     } in
     let p = c.in-Ok.ensures.ok in
-    both_cost laws c.args.limits (g.F.Files.texts c.args.files.now) (g.F.Files.texts c.read_specification.new.files) c.args.spec.now c.args.log.now c.in-Ok.judge _ _ c.read_specification.ensures.texts p
+    both_cost laws c.args.limits (g.F.Files.texts c.args.files.now) (g.F.Files.texts c.read_specification.new.files) c.args.spec.now c.args.log.now c.in-Ok.judge c.run_log.result.end _ _ c.read_specification.ensures.texts p
     (λ ample. c.run_log.ensures.cost p.items p.stands ample)
 
 pub returns-in-Err-clause-bytes : goal.returns-in-Err-clause-bytes
@@ -48,4 +48,4 @@ returns-in-Err-clause-opened g c =
     rw c.early.ensures (refused_opened (g.F.Files.texts c.args.files.now) _ c.args.spec.now c.args.log.now c.in-Err.end _ _ c.in-Err.ensures.err c.in-Err.ensures.asked)
 
 pub returns-in-Err-clause-cost : goal.returns-in-Err-clause-cost
-returns-in-Err-clause-cost g c = unread_cost c.args.limits (g.F.Files.texts c.args.files.now) (c.args.spec.now ∷ c.args.log.now ∷ []) c.args.steps.now
+returns-in-Err-clause-cost g c = unread_cost c.args.limits (g.F.Files.texts c.args.files.now) (c.args.spec.now ∷ c.args.log.now ∷ []) _ c.args.steps.now

@@ -4,6 +4,7 @@ use Rattle.monitor_run.proofs.Ending.{ended_told, ended_cause}
 use Rattle.monitor_run.proofs.Ends.{rose_before, rose_after}
 use Rattle.monitor_run.proofs.OneReport.{told_exact}
 use Rattle.monitor_run.proofs.OneSpelled.{OneAnswer}
+use Rattle.monitor_run.proofs.RunCosts.{finished_cost}
 use Rattle.monitor_run.proofs.top.run_to_end.Goals as goal
 
 pub returns-clause-bytes : goal.returns-clause-bytes
@@ -36,3 +37,8 @@ returns-clause-complete g c =
     (rose_before _ (g.W.Sink.faults s.new.out) _ c.finish.ensures.later) (rose_after _ (g.W.Sink.faults s.new.out) _ s.ensures.out_later) s.ensures.cause c.finish.ensures.bytes in
     told_complete laws (g.F.Files.texts c.args.files.now) c.args.limits _ _ _ _ _ _ c.finish.result cause
     (ended_told c.args.limits (g.F.Files.texts c.args.files.now) _ _ _ _ _ _ _ _ s.new.output s.result.end c.finish.result s.result.events s.result.name s.ensures.cause s.ensures.named s.ensures.bytes c.finish.ensures.bytes)
+
+pub returns-clause-cost : goal.returns-clause-cost
+returns-clause-cost g c =
+    let s = c.session-reached in
+    finished_cost c.args.limits (g.F.Files.texts c.args.files.now) _ s.result.end c.finish.result s.result.events s.result.name s.new.output _ _ _ _ _ c.finish.ensures.bytes s.ensures.cost
