@@ -1,6 +1,6 @@
 //! A table and the memo of its operations.
 
-ghost use Rattle.std.specs.Prelude.{◌≡◌, [], ◌+◌, ◌*◌, ◌<◌, ◌≤◌, ◌↔◌, true, false, None, length, IfOk};
+ghost use Rattle.std.specs.Prelude.{◌≡◌, [], ◌+◌, ◌*◌, ◌<◌, ◌≤◌, ◌↔◌, true, false, None, length, IfOk, IsTrue};
 ghost use Rattle.std.specs.Borrow.{sem};
 ghost use Rattle.node_tree.specs.Tree.{join, top};
 ghost use Rattle.node_table.specs.Table.{tree_of, IsValid, held, live_of, IsShared};
@@ -137,14 +137,37 @@ impl Store {
         &mut self.cache
     }
 
+    /// How many results an operation can have.
+    fn most(&self) -> u64
+        ensures { result ≡ (self.now.table.room + 2) * (self.now.table.room + 3) }
+    {
+        let nodes = self.table.room() as u64;
+        (nodes + 2) * (nodes + 3)
+    }
+
+    /// How many results the memo can hold.
+    fn entries(&self) -> u64
+        ensures { result ≡ self.now.memo.entries }
+    {
+        self.cache.held() as u64 + self.cache.room() as u64
+    }
+
+    /// Whether the memo can hold all results of an operation. Then the steps of an operation are bounded.
+    pub fn is_large(&self) -> bool
+        ensures { IsTrue result ↔ IsLarge self.now }
+    {
+        self.most() <= self.entries()
+    }
+
     /// How many results of an operation there should be room for: all that it can have, where the memo is large enough.
     fn wanted(&self) -> u64
         ensures { IsLarge self.now → result ≡ (self.now.table.room + 2) * (self.now.table.room + 3) }
     {
-        let nodes = self.table.room() as u64;
-        let all = (nodes + 2) * (nodes + 3);
-        let entries = self.cache.held() as u64 + self.cache.room() as u64;
-        if all <= entries { all } else { entries / 2 }
+        if self.is_large() {
+            self.most()
+        } else {
+            self.entries() / 2
+        }
     }
 
     /// Makes the memo ready for an operation. It forgets all where that isn't known to be right, or has little room

@@ -10,6 +10,7 @@ ghost use Rattle.quantify.specs.Quantified.{after_rows};
 ghost use Rattle.quantify.specs.Rows.{Quantifies};
 
 use crate::bit::merge_of;
+use crate::deepest::{cut_off, is_before};
 use bdd_ops::{NodesFull, Store, change_level};
 use mon_base::Steps;
 use node_table::{Block, Handle, NodeTable};
@@ -77,6 +78,33 @@ fn rows_from<L: Ledger>(
     }
 }
 
+/// The whole block at once, where nothing stands below it and no row can be refused, and else row by row.
+fn rows_at_once<L: Ledger>(
+    store: &mut Store,
+    all: bool,
+    h: Handle,
+    block: Block,
+    roots: &[Handle],
+    steps: &mut Steps<L>,
+) -> Result<Handle, BlockFull>
+    requires block { block.first + block.bits ≤ 65536 }
+    requires operand { IsValid store.old.table h }
+    requires roots { AllValid store.old.table roots.now }
+    ensures made { Quantifies all block.first block.bits 0 h roots.now store.old.table store.new.table result }
+    ensures entries { store.new.memo.entries ≡ store.old.memo.entries }
+{
+    let operands = [h];
+    store.make_ready(&operands, roots);
+    let end = block.first as u32 + block.bits as u32;
+    if is_before(store, end, h, steps) {
+        let _held = store.live();
+        if let Some(made) = cut_off(store, all, block, h, steps) {
+            return Ok(made);
+        }
+    }
+    rows_from(store, all, h, block, 0, h, roots, steps)
+}
+
 /// The disjunction over all values of a block's bits, or with `all` the conjunction. Row r is the r-th bit taken.
 pub fn quantify_block<L: Ledger>(
     store: &mut Store,
@@ -93,5 +121,9 @@ pub fn quantify_block<L: Ledger>(
     ensures bounded { IsLarge store.old → steps.new ≤ steps.old + block.bits * (6 * handle_pairs store.old.table) }
     ensures entries { store.new.memo.entries ≡ store.old.memo.entries }
 {
-    rows_from(store, all, h, block, 0, h, roots, steps)
+    // The bound on steps is one for each row.
+    if store.is_large() || is_leaf(store.table(), h) {
+        return rows_from(store, all, h, block, 0, h, roots, steps);
+    }
+    rows_at_once(store, all, h, block, roots, steps)
 }

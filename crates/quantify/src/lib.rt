@@ -4,6 +4,7 @@
 
 mod bit;
 mod block;
+mod deepest;
 #[cfg(test)]
 mod tests;
 
