@@ -20,9 +20,9 @@ use Rattle.bdd_ops.proofs.Growing.{keeps_same}
 use Rattle.bdd_ops.proofs.Tries.{stay_same, stay_valid, there_ends, tried_before, first_ok, stay_collected, again_ok, again_full}
 
 -- a try in a store that has room for all pairs of handles
-pub inside_bounded : (op : Op) (u v : ℕ) (x : Shelf) (t w : Table) (m n : Memo ℕ) (s k : ℕ) (r : Result ℕ Full) → record { table = t; memo = m } ≡ x → IsShared t → IsValid t u → IsValid t v
+pub inside_bounded : (op : Op) (u v : ℕ) (x : Shelf) (t w : Table) (m n notes : Memo ℕ) (s k : ℕ) (r : Result ℕ Full) → record { table = t; memo = m; notes = notes } ≡ x → IsShared t → IsValid t u → IsValid t v
     → IsMemo n → Applies op u v t w m n s k r → HasRoom x → k ≤ s + (2 * handle_pairs x.table + 4 * x.table.room)
-inside_bounded op u v x t w m n s k r e sh vu vv memo a =
+inside_bounded op u v x t w m n notes s k r e sh vu vv memo a =
     subst (λ (y : Shelf). HasRoom y → k ≤ s + (2 * handle_pairs y.table + 4 * y.table.room)) e (λ room. try_bounded op u v t w m n s k r sh vu vv memo a (omega (arith, room)))
 
 -- the values of an operation's tree

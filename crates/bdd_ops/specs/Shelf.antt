@@ -3,10 +3,11 @@ use Rattle.std.specs.Prelude.{ℕ, ◌+◌, ◌*◌, ◌≤◌, length}
 use Rattle.node_table.specs.Table.{Table}
 use Rattle.op_cache.specs.Memo.{Memo}
 
--- a table, and a memo of operations on its handles
+-- a table, a memo of operations on its handles, and notes of one walk of a crate above
 pub record Shelf : Type 0 where
   pub table : Table
   pub memo : Memo ℕ
+  pub notes : Memo ℕ
 
 -- how many pairs of handles a table can have; the leaves have handles too
 abbrev pub handle_pairs : Table → ℕ

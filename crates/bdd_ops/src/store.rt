@@ -26,6 +26,8 @@ pub struct NodesFull;
 pub struct Store {
     pub(crate) table: NodeTable,
     pub(crate) cache: OpCache<Handle>,
+    /// What one walk of a crate above has found, so that it leaves the memo alone.
+    notes: OpCache<Handle>,
     /// Whether the memo is known to hold results alone.
     pub(crate) sound: bool,
     /// The number of nodes held at which the next operation collects before it begins.
@@ -43,7 +45,7 @@ impl Model for Store {
     ghost use Rattle.std.specs.Prelude.{◌≡◌, true};
     ghost use Rattle.bdd_ops.specs.Applied.{IsSound};
 
-    ghost view = { λ s. record { table = s.table; memo = s.cache } };
+    ghost view = { λ s. record { table = s.table; memo = s.cache; notes = s.notes } };
 
     ghost invariant = { λ s. s.sound ≡ true → IsSound s.table s.cache.pairs };
 }
@@ -59,10 +61,12 @@ impl Store {
         ensures empty { IfOk result (λ s. held s.table ≡ []) }
         ensures shared { IfOk result (λ s. IsShared s.table) }
         ensures memo { IfOk result (λ s. s.memo ≡ record { entries = entries; pairs = [] }) }
+        ensures notes { IfOk result (λ s. s.notes ≡ record { entries = nodes + 2; pairs = [] }) }
     {
         Ok(Store {
             table: NodeTable::open(alloc, nodes)?,
             cache: OpCache::open(alloc, entries)?,
+            notes: OpCache::open(alloc, nodes + 2)?,
             sound: false,
             limit: CROWD,
         })
@@ -91,6 +95,7 @@ impl Store {
         requires below_high { level < top (tree_of self.old.table high) }
         ensures made { Makes (join level (tree_of self.old.table low) (tree_of self.old.table high)) self.old.table self.new.table result }
         ensures memo { self.new.memo ≡ self.old.memo }
+        ensures notes { self.new.notes ≡ self.old.notes }
         ensures sound { IsSound self.old.table self.old.memo.pairs → IsSound self.new.table self.new.memo.pairs }
     {
         self.table.make(level, low, high)
@@ -103,20 +108,33 @@ impl Store {
         self.cache.find(key)
     }
 
-    /// Stores the result of a key that has none, of an operation of a crate above. False where the memo holds all that
-    /// it can, and then nothing changes. The memo is right where it was: numbers from 5 on are no operation on two
-    /// trees.
-    pub fn remember(&mut self, key: Key<Handle>, answer: Handle) -> bool
-        requires absent { result_at self.old.memo.pairs (record { op = key.op; left = key.left; right = key.right }) ≡ None }
-        requires other { 5 ≤ key.op }
-        ensures full { (result ≡ false) ↔ (length self.old.memo.pairs ≡ self.old.memo.entries) }
-        ensures stored { result ≡ true → Adds self.old.memo.pairs (record { op = key.op; left = key.left; right = key.right }) answer self.new.memo.pairs }
-        ensures kept { result ≡ false → self.new.memo ≡ self.old.memo }
-        ensures entries { self.new.memo.entries ≡ self.old.memo.entries }
-        ensures table { self.new.table ≡ self.old.table }
-        ensures sound { IsSound self.old.table self.old.memo.pairs → IsSound self.new.table self.new.memo.pairs }
+    /// What was noted for a key since the notes were cleared.
+    pub fn note(&self, key: Key<Handle>) -> Option<Handle>
+        ensures { result ≡ result_at self.now.notes.pairs (record { op = key.op; left = key.left; right = key.right }) }
     {
-        self.cache.store(key, answer)
+        self.notes.find(key)
+    }
+
+    /// Notes what a walk has found for a key that has no note. False where there is room for no more, and then nothing
+    /// changes.
+    pub fn take_note(&mut self, key: Key<Handle>, answer: Handle) -> bool
+        requires { result_at self.old.notes.pairs (record { op = key.op; left = key.left; right = key.right }) ≡ None }
+        ensures full { (result ≡ false) ↔ (length self.old.notes.pairs ≡ self.old.notes.entries) }
+        ensures stored { result ≡ true → Adds self.old.notes.pairs (record { op = key.op; left = key.left; right = key.right }) answer self.new.notes.pairs }
+        ensures kept { result ≡ false → self.new.notes ≡ self.old.notes }
+        ensures table { self.new.table ≡ self.old.table }
+        ensures memo { self.new.memo ≡ self.old.memo }
+    {
+        self.notes.store(key, answer)
+    }
+
+    /// Clears all notes, before a walk begins.
+    pub fn clear_notes(&mut self)
+        ensures none { self.new.notes.pairs ≡ [] }
+        ensures table { self.new.table ≡ self.old.table }
+        ensures memo { self.new.memo ≡ self.old.memo }
+    {
+        self.notes.begin();
     }
 
     /// The table, to be changed. The memo is then no longer known to be right.
