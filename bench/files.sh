@@ -1,20 +1,14 @@
 #!/bin/sh
 # Times the proved program on a log of fifty users and two hundred files, beside other monitors. It is no part of the gate.
 # usage: bench/files.sh [EVENTS [ROUNDS [PEER ..]]]
-# A PEER is a monitor that is called as PEER SPEC LOG, as README.md tells. There may be none.
 set -eu
 
-events=${1:-20000}
-rounds=${2:-5}
-[ $# -lt 1 ] || shift
-[ $# -lt 1 ] || shift
-here=$(CDPATH='' cd "$(dirname "$0")" && pwd)
-. "$here/program.sh"
+name=files
+usual=20000
 
 # A user who is in opens a file, writes to one that he has open, closes one, or logs out once he has none; at most five are
 # open to each. Now and then somebody writes to a file that he may not have open.
-log=$here/data/files-$events.csv
-if [ ! -s "$log" ]; then
+write_log() {
     awk -v events="$events" '
         function below(n) { state = state * 16807 % 2147483647; return state % n }
         BEGIN {
@@ -38,8 +32,7 @@ if [ ! -s "$log" ]; then
                 }
                 else { inside[u] = 0; print "logout,u" u }
             }
-        }' >"$log.part"
-    mv "$log.part" "$log"
-fi
+        }'
+}
 
-exec python3 "$here/monitors.py" "$here/files.qtl" "$log" "$events" "$rounds" "$program" "$@"
+. "$(dirname "$0")/monitors.sh"

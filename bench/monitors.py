@@ -1,4 +1,4 @@
-"""Times monitors on one log: one run of each in turn, for some rounds. Called by access.sh."""
+"""Times monitors on one log: one run of each in turn, for some rounds. Called by monitors.sh."""
 import os
 import statistics
 import sys
