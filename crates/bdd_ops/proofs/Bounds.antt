@@ -26,7 +26,7 @@ use Rattle.op_cache.specs.Memo.{Memo, result_at, IsMemo}
 use Rattle.op_cache.proofs.Places.{places_laws}
 use Rattle.bdd_ops.specs.declared.op.Op.{Op}
 use Rattle.bdd_ops.specs.Numbers.{number_of, place}
-use Rattle.bdd_ops.specs.Applied.{IsSound, LeavesOthers, depths, unfinished, Applies}
+use Rattle.bdd_ops.specs.Applied.{HoldsResults, LeavesOthers, depths, unfinished, Applies}
 use Rattle.bdd_ops.proofs.Stages.{unfinished-le}
 
 pub left_or : (a b : Bool) → a ≡ true → (a || b) ≡ true
@@ -110,7 +110,7 @@ pub keys-length : (pairs : List (Place × ℕ)) → length (keys_of pairs) ≡ l
 keys-length pairs = length-map pairs (λ (p : Place × ℕ). p.0)
 
 -- an operation's place is one of its handles' places
-pub place_in_grid : (op : Op) (t : Table) (pairs : List (Place × ℕ)) → IsSound t pairs → (q : Place) (o : Option ℕ) → result_at pairs q ≡ o → is_some o ≡ true → q.op ≡ number_of op →
+pub place_in_grid : (op : Op) (t : Table) (pairs : List (Place × ℕ)) → HoldsResults t pairs → (q : Place) (o : Option ℕ) → result_at pairs q ≡ o → is_some o ≡ true → q.op ≡ number_of op →
     is_member same_place (grid (number_of op) (handles t) (handles t)) q ≡ true
 unfolding at_place
 place_in_grid op t pairs sound q None e w i = absurd (let x : false ≡ true = w in cc)
@@ -124,7 +124,7 @@ pub squares : (a b : ℕ) → a ≤ b → a * a ≤ b * b
 squares a b h = let x = mul-le-mul_left a h in let y = mul-le-mul_left b h in omega (arith, x, y)
 
 -- an operation's pairs are no more than there are pairs of handles
-pub most_pairs : (op : Op) (u v : ℕ) (s t : Table) (old new : Memo ℕ) → IsShared t → IsMemo new → IsSound t new.pairs → LeavesOthers s old.pairs new.pairs (number_of op) u v → length
+pub most_pairs : (op : Op) (u v : ℕ) (s t : Table) (old new : Memo ℕ) → IsShared t → IsMemo new → HoldsResults t new.pairs → LeavesOthers s old.pairs new.pairs (number_of op) u v → length
     new.pairs ≤ length old.pairs + (t.room + 2) * (t.room + 2)
 unfolding at_place
 most_pairs op u v s t old new sh memo sound others =

@@ -9,8 +9,8 @@ use Rattle.op_cache.specs.Memo.{Memo, result_at, Adds}
 use Rattle.bdd_ops.specs.declared.level.Merge.{Merge}
 use Rattle.bdd_ops.specs.Numbers.{number_of}
 use Rattle.bdd_ops.specs.Parts.{IsBranch}
-use Rattle.bdd_ops.specs.Applied.{Grows, Makes, IsSound, depths, unfinished, Costs}
-use Rattle.bdd_ops.specs.Level.{at_level, merged, merge_number, inner, Remembers, LeavesRest, Changes, Merges, IsAbove}
+use Rattle.bdd_ops.specs.Applied.{Grows, Makes, HoldsResults, depths, unfinished, Costs}
+use Rattle.bdd_ops.specs.Level.{at_level, merged, merge_number, inner, HoldsTrees, LeavesRest, Changes, Merges, IsAbove}
 use Rattle.bdd_ops.proofs.Growing.{In, IsPart, keeps_same, grows_none, widened, chained, made_grows, full_back}
 use Rattle.bdd_ops.proofs.Memo.{sound_kept, sound_other, costs_none}
 use Rattle.bdd_ops.proofs.Stages.{never, made_ok, unfinished-le}
@@ -22,7 +22,7 @@ unfinished-mono (Ok h) a b l = omega arith
 unfinished-mono (Err e) a b l = l
 
 -- a child takes the place
-pub takes_child : (k : Merge) (u v r : ℕ) (t : Table) (m : Memo ℕ) (s : ℕ) → IsShared t → IsSound t m.pairs → IsValid t r → tree_of t r ≡ merged k (tree_of t u) (tree_of t v) → Merges k u v
+pub takes_child : (k : Merge) (u v r : ℕ) (t : Table) (m : Memo ℕ) (s : ℕ) → IsShared t → HoldsResults t m.pairs → IsValid t r → tree_of t r ≡ merged k (tree_of t u) (tree_of t v) → Merges k u v
     t t m m s s (Ok r)
 takes_child k u v r t m s sh so vr e = record {
   made = made_ok t t (merged k (tree_of t u) (tree_of t v)) r vr e (grows_none t (merged k (tree_of t u) (tree_of t v)) sh);
@@ -31,7 +31,7 @@ takes_child k u v r t m s sh so vr e = record {
   costs = costs_none m s 0;
 }
 
-module _ (k : Merge) (level h : ℕ) (t : Table) (m : Memo ℕ) (s : ℕ) (small : level < 65536) (sh : IsShared t) (vh : IsValid t h) (so : IsSound t m.pairs) (re : Remembers (at_level (merged k)
+module _ (k : Merge) (level h : ℕ) (t : Table) (m : Memo ℕ) (s : ℕ) (small : level < 65536) (sh : IsShared t) (vh : IsValid t h) (so : HoldsResults t m.pairs) (re : HoldsTrees (at_level (merged k)
     level) (merge_number k) t m.pairs) where
   abbrev F : Tree → Tree
   F = at_level (merged k) level
@@ -218,16 +218,16 @@ module _ (k : Merge) (level h : ℕ) (t : Table) (m : Memo ℕ) (s : ℕ) (small
                   costs = level_stored m o p s s2 g (at_one (merge_number k) h) costs_both entries stored;
                 }
               where
-                sounds : (y : Table) (g : ℕ) (p : Memo ℕ) → IsSound y o.pairs → (Adds o.pairs (at_one (merge_number k) h) g p.pairs ⊎ ((p ≡ o) × (length o.pairs ≡ o.entries))) → IsSound y p.pairs
+                sounds : (y : Table) (g : ℕ) (p : Memo ℕ) → HoldsResults y o.pairs → (Adds o.pairs (at_one (merge_number k) h) g p.pairs ⊎ ((p ≡ o) × (length o.pairs ≡ o.entries))) → HoldsResults y p.pairs
                 sounds y g p before (inl adds) = sound_other y o.pairs p.pairs (at_one (merge_number k) h) g (merge_above k) before adds
-                sounds y g p before (inr same) = subst (λ z. IsSound y z) (sym (ap (λ (z : Memo ℕ). z.pairs) same.0)) before
+                sounds y g p before (inr same) = subst (λ z. HoldsResults y z) (sym (ap (λ (z : Memo ℕ). z.pairs) same.0)) before
 
-                now : (y : Table) (g : ℕ) (p : Memo ℕ) → IsValid y g → tree_of y g ≡ Whole → Grows t y Whole → Remembers F (merge_number k) y o.pairs → (Adds o.pairs (at_one (merge_number k)
-                    h) g p.pairs ⊎ ((p ≡ o) × (length o.pairs ≡ o.entries))) → Remembers F (merge_number k) y p.pairs
+                now : (y : Table) (g : ℕ) (p : Memo ℕ) → IsValid y g → tree_of y g ≡ Whole → Grows t y Whole → HoldsTrees F (merge_number k) y o.pairs → (Adds o.pairs (at_one (merge_number k)
+                    h) g p.pairs ⊎ ((p ≡ o) × (length o.pairs ≡ o.entries))) → HoldsTrees F (merge_number k) y p.pairs
                 now y g p vg is grown before (inl adds) =
                     let a = grown.keeps.trees h vh in
                     remembers_added F (merge_number k) y o.pairs p.pairs h g before a.0 (subst IsBranch (sym (a.1 ∙ ab.tree)) tt) vg (is ∙ sym (ap F a.1)) adds
-                now y g p vg is grown before (inr same) = subst (λ z. Remembers F (merge_number k) y z) (sym (ap (λ (z : Memo ℕ). z.pairs) same.0)) before
+                now y g p vg is grown before (inr same) = subst (λ z. HoldsTrees F (merge_number k) y z) (sym (ap (λ (z : Memo ℕ). z.pairs) same.0)) before
 
                 later : (g : ℕ) (p : Memo ℕ) → (Adds o.pairs (at_one (merge_number k) h) g p.pairs ⊎ ((p ≡ o) × (length o.pairs ≡ o.entries))) → LeavesRest t m.pairs p.pairs (merge_number k)
                     (number_of (inner k)) h h

@@ -1,6 +1,6 @@
 -- What grows in a table, and what has room there.
 use Rattle.std.proofs.Common.{◌≡◌, ℕ, ◌<◌, ◌≤◌, List, ◌++◌, refl, ap, sym, ◌∙◌, arith, subst, ⊎_elim}
-use Rattle.std.specs.Prelude.{Bool, true, ◌||◌}
+use Rattle.std.specs.Prelude.{Bool, true, ◌||◌, Option}
 use Rattle.std.specs.Set.{is_member}
 use Rattle.std.proofs.lemmas.Bool.{or_cases}
 use Rattle.std.proofs.Math.Bool.{or-true}
@@ -8,6 +8,7 @@ use Rattle.std.proofs.lemmas.List.Folds.{list_any-append}
 use Rattle.std.proofs.lemmas.Map.Made.{distinct_count-le}
 use Rattle.node_tree.specs.Tree.{Tree, tree_eq, branches}
 use Rattle.node_tree.proofs.Counting.{distinct_count-le_from_members}
+use Rattle.node_table.specs.declared.node.Node.{Node}
 use Rattle.node_table.specs.Table.{Table, tree_of, IsValid, held, need, KeepsTrees, HoldsAlso, IsShared}
 use Rattle.node_table.proofs.Sharing.{live-held}
 use Rattle.bdd_ops.specs.Applied.{Grows}
@@ -30,6 +31,26 @@ keeps_same t = record { room = refl; trees = λ h v. (v, refl) }
 
 pub grows_none : (t : Table) (tree : Tree) → IsShared t → Grows t t tree
 grows_none t tree s = record { keeps = keeps_same t; kept = λ q m. m; only = λ q m. right_or _ _ m; shared = s }
+
+-- where the nodes are the same, and maybe other notes
+pub grows_noted : (t u : Table) (tree : Tree) → IsShared t → u.room ≡ t.room → u.nodes ≡ t.nodes → Grows t u tree
+grows_noted t u tree s room nodes =
+    let is : u ≡ record { room = t.room; nodes = t.nodes; notes = u.notes } =
+    ap (λ (n : ℕ). record { room = n; nodes = u.nodes; notes = u.notes }) room ∙ ap (λ (ns : List (Option Node)). record { room = t.room; nodes = ns; notes = u.notes }) nodes in
+    subst (λ (w : Table). Grows t w tree) (sym is) (record {
+      keeps = record { room = refl; trees = λ h v. (v, refl) };
+      kept = λ q m. m;
+      only = λ q m. right_or _ _ m;
+      shared = record {
+        zero = s.zero;
+        one = s.one;
+        one_handle = s.one_handle;
+        ordered = s.ordered;
+        reduced = s.reduced;
+        closed = s.closed;
+        bound = s.bound;
+      };
+    })
 
 pub widened : (t u : Table) (part whole : Tree) → IsPart part whole → Grows t u part → Grows t u whole
 widened t u part whole wide a = record {

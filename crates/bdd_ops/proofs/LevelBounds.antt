@@ -23,8 +23,9 @@ use Rattle.op_cache.proofs.Places.{places_laws}
 use Rattle.bdd_ops.specs.declared.level.Merge.{Merge}
 use Rattle.bdd_ops.specs.Numbers.{number_of}
 use Rattle.bdd_ops.specs.Parts.{IsBranch}
-use Rattle.bdd_ops.specs.Applied.{IsSound, depths, unfinished}
-use Rattle.bdd_ops.specs.Level.{at_level, merged, merge_number, inner, Remembers, LeavesRest, Changes}
+use Rattle.bdd_ops.specs.Applied.{HoldsResults, depths, unfinished}
+use Rattle.bdd_ops.specs.Level.{at_level, merged, merge_number, inner, HoldsTrees, LeavesRest, Changes}
+use Rattle.bdd_ops.specs.Shelf.{handle_pairs, try_steps}
 use Rattle.bdd_ops.proofs.Stages.{unfinished-le}
 use Rattle.bdd_ops.proofs.Rest.{at_one}
 use Rattle.bdd_ops.proofs.Bounds.{left_or, right_or, handles, has_number, handles-length, grid, grid-length, keys-length, place_in_grid, squares, depth-le}
@@ -55,7 +56,7 @@ has_node t (suc (suc k)) sh v b = node (node_at t (suc (suc k))) refl v
     node None e w = absurd (let x : false ≡ true = w in cc)
     node (Some s) e w = has_number (node_at t) (length t.nodes) (suc (suc k)) s e (within t (suc (suc k)) s e)
 
-place_in_twice : (f : Tree → Tree) (n : ℕ) (t : Table) (pairs : List (Place × ℕ)) → IsShared t → Remembers f n t pairs → (q : Place) (o : Option ℕ) → result_at pairs q ≡ o → is_some o ≡ true
+place_in_twice : (f : Tree → Tree) (n : ℕ) (t : Table) (pairs : List (Place × ℕ)) → IsShared t → HoldsTrees f n t pairs → (q : Place) (o : Option ℕ) → result_at pairs q ≡ o → is_some o ≡ true
     → q.op ≡ n → is_member same_place (twice n (numbers t)) q ≡ true
 place_in_twice f n t pairs sh re q None e w i = absurd (let x : false ≡ true = w in cc)
 place_in_twice f n t pairs sh re q (Some h) e w i =
@@ -65,7 +66,7 @@ place_in_twice f n t pairs sh re q (Some h) e w i =
     subst (λ p. is_member same_place (twice n (numbers t)) p ≡ true) both (in_twice n q.left (numbers t) (has_node t q.left sh x.1 x.2))
 
 -- such an operation's pairs are no more than there are pairs of handles, and nodes
-most_changed : (k : Merge) (level u v : ℕ) (s t : Table) (old new : List (Place × ℕ)) → old ≡ [] → IsShared t → (m : Memo ℕ) → m.pairs ≡ new → IsMemo m → IsSound t new → Remembers (at_level
+most_changed : (k : Merge) (level u v : ℕ) (s t : Table) (old new : List (Place × ℕ)) → old ≡ [] → IsShared t → (m : Memo ℕ) → m.pairs ≡ new → IsMemo m → HoldsResults t new → HoldsTrees (at_level
     (merged k) level) (merge_number k) t new → LeavesRest s old new (merge_number k) (number_of (inner k)) u v →
     length new ≤ (t.room + 2) * (t.room + 2) + t.room
 most_changed k level u v s t old new none sh m is memo sound re rest =
@@ -97,13 +98,10 @@ most_changed k level u v s t old new none sh m is memo sound re rest =
     three q i (inr n) (inr o) = absurd (let z : is_some (result_at old q) ≡ true = ap is_some (sym (rest.other_op q n o)) ∙ i in let y : false ≡ true = subst (λ x. is_some (result_at x q) ≡
         true) none z in cc)
 
-small : (n : ℕ) → 2 * n ≤ n * n + 3
-small n = ⊎_elim (λ (l : n < 2). omega (arith, l)) (λ (l : 2 ≤ n). (let x = mul-le-mul_left n l in omega (arith, x))) (cases_lt n 2)
-
 -- what a try costs from an empty memo that is large enough
-pub change_bounded : (k : Merge) (level h : ℕ) (t w : Table) (m n : Memo ℕ) (s j : ℕ) (r : Result ℕ Full) → IsShared t → IsValid t h → m.pairs ≡ [] → (t.room + 2) * (t.room + 3) ≤ m.entries
-    → IsMemo n → Changes k level h t w m n s j r → j ≤ s + 3 * ((t.room + 2) * (t.room + 2))
-change_bounded k level h t w m n s j r sh vh none large memo a =
+pub change_closely : (k : Merge) (level h : ℕ) (t w : Table) (m n : Memo ℕ) (s j : ℕ) (r : Result ℕ Full) → IsShared t → IsValid t h → m.pairs ≡ [] → (t.room + 2) * (t.room + 3) ≤ m.entries
+    → IsMemo n → Changes k level h t w m n s j r → j ≤ s + try_steps t
+change_closely k level h t w m n s j r sh vh none large memo a =
     let same : w.room ≡ t.room = a.made.grows.keeps.room in
     let most : length n.pairs ≤ (t.room + 2) * (t.room + 2) + t.room =
     subst (λ (x : ℕ). length n.pairs ≤ (x + 2) * (x + 2) + x) same (most_changed k level h h t w m.pairs n.pairs none a.made.grows.shared n refl memo a.sound a.remembers a.others) in
@@ -111,7 +109,16 @@ change_bounded k level h t w m n s j r sh vh none large memo a =
     let c = a.costs.steps (omega (arith, most, large, e)) in
     let d = depth-le t h sh vh in
     let less = unfinished-le r (depths t h h) in
-    sum t.room s j (length n.pairs) (unfinished r (depths t h h)) (depth (tree_of t h)) (omega (arith, c)) most less d (small t.room)
+    sum t.room s j (length n.pairs) (unfinished r (depths t h h)) (depth (tree_of t h)) (omega (arith, c)) most less d
   where
-    sum : (x s k q d i : ℕ) → k ≤ s + 1 + 2 * q + 2 * d → q ≤ (x + 2) * (x + 2) + x → d ≤ i + i → i ≤ x → 2 * x ≤ x * x + 3 → k ≤ s + 3 * ((x + 2) * (x + 2))
-    sum x s k q d i a b c e f = omega (arith, a, b, c, e, f)
+    sum : (x s k q d i : ℕ) → k ≤ s + 1 + 2 * q + 2 * d → q ≤ (x + 2) * (x + 2) + x → d ≤ i + i → i ≤ x → k ≤ s + (2 * ((x + 2) * (x + 2)) + 6 * x + 1)
+    sum x s k q d i a b c e = omega (arith, a, b, c, e)
+
+small : (n : ℕ) → 2 * n ≤ n * n + 3
+small n = ⊎_elim (λ (l : n < 2). omega (arith, l)) (λ (l : 2 ≤ n). (let x = mul-le-mul_left n l in omega (arith, x))) (cases_lt n 2)
+
+pub try_few : (t : Table) → try_steps t ≤ 3 * handle_pairs t
+try_few t = sum t.room (small t.room)
+  where
+    sum : (x : ℕ) → 2 * x ≤ x * x + 3 → 2 * ((x + 2) * (x + 2)) + 6 * x + 1 ≤ 3 * ((x + 2) * (x + 2))
+    sum x a = omega (arith, a)

@@ -11,7 +11,7 @@ use Rattle.bdd_ops.specs.declared.op.Op.{Op}
 use Rattle.bdd_ops.specs.declared.op.Op.TheVariants.{And, Or, AndNot, Implies, Iff}
 use Rattle.bdd_ops.specs.Apply.{apply_tree}
 use Rattle.bdd_ops.specs.Numbers.{truth_of, number_of, place}
-use Rattle.bdd_ops.specs.Applied.{IsSound, LeavesOthers, Costs, op_tree, depths}
+use Rattle.bdd_ops.specs.Applied.{HoldsResults, LeavesOthers, Costs, op_tree, depths}
 
 -- ---- places
 
@@ -34,7 +34,7 @@ same_op a b e = sym (op_back a) ∙ ap op_at e ∙ op_back b
 
 -- ---- results
 
-pub sound_kept : (t u : Table) (pairs : List (Place × ℕ)) → KeepsTrees t u → IsSound t pairs → IsSound u pairs
+pub sound_kept : (t u : Table) (pairs : List (Place × ℕ)) → KeepsTrees t u → HoldsResults t pairs → HoldsResults u pairs
 sound_kept t u pairs k s = record {
   each = λ op l r h e.
       (let x = s.each op l r h e in
@@ -42,8 +42,8 @@ sound_kept t u pairs k s = record {
       (a.0, b.0, c.0, c.1 ∙ x.3 ∙ sym (ap (λ y. apply_tree (truth_of op) y (tree_of u r)) a.1 ∙ ap (λ y. apply_tree (truth_of op) (tree_of t l) y) b.1)));
 }
 
-pub sound_added : (t : Table) (old new : List (Place × ℕ)) (op : Op) (u v h : ℕ) → IsSound t old → IsValid t u → IsValid t v → IsValid t h → tree_of t h ≡ op_tree op t u v → Adds old (place
-    op u v) h new → IsSound t new
+pub sound_added : (t : Table) (old new : List (Place × ℕ)) (op : Op) (u v h : ℕ) → HoldsResults t old → IsValid t u → IsValid t v → IsValid t h → tree_of t h ≡ op_tree op t u v → Adds old (place
+    op u v) h new → HoldsResults t new
 sound_added t old new op u v h s a b c e adds = record {
   each = λ o l r k p.
       elim (same_place (place op u v) (place o l r)) as (λ b. same_place (place op u v) (place o l r) ≡ b → cond b (Some h) (result_at old (place o l r)) ≡ Some k
@@ -70,7 +70,7 @@ op_below Implies = omega arith
 op_below Iff = omega arith
 
 -- a pair of another number leaves the operations' results
-pub sound_other : (t : Table) (old new : List (Place × ℕ)) (p : Place) (h : ℕ) → 5 ≤ p.op → IsSound t old → Adds old p h new → IsSound t new
+pub sound_other : (t : Table) (old new : List (Place × ℕ)) (p : Place) (h : ℕ) → 5 ≤ p.op → HoldsResults t old → Adds old p h new → HoldsResults t new
 sound_other t old new p h above s adds = record {
   each = λ op a b r e. s.each op a b r (sym (elsewhere op a b) ∙ e);
 }
@@ -120,10 +120,10 @@ stored_cases true old new p h full a b = inl (a refl)
 stored_cases false old new p h full a b = inr (b refl, full.0 refl)
 
 -- what a call of `store` left, of another number
-pub sound_stored : (t : Table) (old new : Memo ℕ) (p : Place) (h : ℕ) (r : Bool) → 5 ≤ p.op → IsSound t old.pairs → (r ≡ true → Adds old.pairs p h new.pairs) → (r ≡ false → new ≡ old) →
-    IsSound t new.pairs
+pub sound_stored : (t : Table) (old new : Memo ℕ) (p : Place) (h : ℕ) (r : Bool) → 5 ≤ p.op → HoldsResults t old.pairs → (r ≡ true → Adds old.pairs p h new.pairs) → (r ≡ false → new ≡ old) →
+    HoldsResults t new.pairs
 sound_stored t old new p h true above s a b = sound_other t old.pairs new.pairs p h above s (a refl)
-sound_stored t old new p h false above s a b = subst (λ (m : Memo ℕ). IsSound t m.pairs) (sym (b refl)) s
+sound_stored t old new p h false above s a b = subst (λ (m : Memo ℕ). HoldsResults t m.pairs) (sym (b refl)) s
 
 -- ---- steps
 
@@ -163,7 +163,7 @@ costs_stored m o p s j h q c e (inr b) =
       steps = λ l. absurd (let f = b.1 in omega (arith, n, f, e, l));
     }
 
-pub sound_empty : (t : Table) → IsSound t []
+pub sound_empty : (t : Table) → HoldsResults t []
 sound_empty t = record { each = λ op u v h e. (let x : None ≡ Some h = e in absurd (none_some h x)) }
   where
     none_some : (h : ℕ) → None ≡ Some h → ⊥

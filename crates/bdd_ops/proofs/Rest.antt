@@ -12,7 +12,7 @@ use Rattle.bdd_ops.specs.declared.level.Merge.TheVariants.{Low, High, Either, Bo
 use Rattle.bdd_ops.specs.Numbers.{number_of}
 use Rattle.bdd_ops.specs.Parts.{IsBranch}
 use Rattle.bdd_ops.specs.Applied.{LeavesOthers, Costs, depths}
-use Rattle.bdd_ops.specs.Level.{merge_number, Remembers, LeavesRest}
+use Rattle.bdd_ops.specs.Level.{merge_number, HoldsTrees, LeavesRest}
 use Rattle.bdd_ops.proofs.Memo.{same, op_below}
 
 -- ---- numbers
@@ -31,15 +31,15 @@ at_one n h = record { op = n; left = h; right = h }
 
 -- ---- results
 
-pub remembers_none : (f : Tree → Tree) (n : ℕ) (t : Table) → Remembers f n t []
+pub remembers_none : (f : Tree → Tree) (n : ℕ) (t : Table) → HoldsTrees f n t []
 remembers_none f n t = record { each = λ u v k e. (let x : None ≡ Some k = e in absurd (none_some k x)) }
   where
     none_some : (k : ℕ) → None ≡ Some k → ⊥
     none_some k e = cc
 
 -- where the number's pairs are as before, in a table that keeps its trees
-pub remembers_kept : (f : Tree → Tree) (n : ℕ) (t w : Table) (old new : List (Place × ℕ)) → KeepsTrees t w → ((q : Place) → q.op ≡ n → result_at new q ≡ result_at old q) → Remembers f n t
-    old → Remembers f n w new
+pub remembers_kept : (f : Tree → Tree) (n : ℕ) (t w : Table) (old new : List (Place × ℕ)) → KeepsTrees t w → ((q : Place) → q.op ≡ n → result_at new q ≡ result_at old q) → HoldsTrees f n t
+    old → HoldsTrees f n w new
 remembers_kept f n t w old new k same_pairs s = record {
   each = λ u v h e.
       (let x = s.each u v h (sym (same_pairs (record { op = n; left = u; right = v }) refl) ∙ e) in
@@ -47,8 +47,8 @@ remembers_kept f n t w old new k same_pairs s = record {
       (x.0, a.0, subst IsBranch (sym a.1) x.2, b.0, b.1 ∙ x.4 ∙ sym (ap f a.1)));
 }
 
-pub remembers_added : (f : Tree → Tree) (n : ℕ) (t : Table) (old new : List (Place × ℕ)) (u h : ℕ) → Remembers f n t old → IsValid t u → IsBranch (tree_of t u) → IsValid t h → tree_of t h ≡
-    f (tree_of t u) → Adds old (at_one n u) h new → Remembers f n t new
+pub remembers_added : (f : Tree → Tree) (n : ℕ) (t : Table) (old new : List (Place × ℕ)) (u h : ℕ) → HoldsTrees f n t old → IsValid t u → IsBranch (tree_of t u) → IsValid t h → tree_of t h ≡
+    f (tree_of t u) → Adds old (at_one n u) h new → HoldsTrees f n t new
 remembers_added f n t old new u h s vu bu vh e adds = record {
   each = λ a b k p.
       elim (same_place (at_one n u) (record { op = n; left = a; right = b })) as (λ x. same_place (at_one n u) (record { op = n; left = a; right = b }) ≡ x → cond x (Some h) (result_at old

@@ -11,7 +11,7 @@ use Rattle.bdd_ops.specs.declared.parts.Split.{Split}
 use Rattle.bdd_ops.specs.Apply.{apply_tree}
 use Rattle.bdd_ops.specs.Numbers.{truth_of, number_of, place}
 use Rattle.bdd_ops.specs.Split.{Splits}
-use Rattle.bdd_ops.specs.Applied.{Grows, Makes, op_tree, IsSound, depths, LeavesOthers, unfinished, Costs, Applies}
+use Rattle.bdd_ops.specs.Applied.{Grows, Makes, op_tree, HoldsResults, depths, LeavesOthers, unfinished, Costs, Applies}
 use Rattle.bdd_ops.proofs.Splitting.{Parts, parts}
 use Rattle.bdd_ops.proofs.Growing.{In, IsPart, keeps_same, grows_none, widened, chained, made_grows, full_back, fits_in}
 use Rattle.bdd_ops.proofs.Memo.{sound_kept, sound_added, others_same, others_chained, others_below, others_added, costs_none, costs_part, costs_chained, costs_dropped, costs_stored}
@@ -23,6 +23,16 @@ never e = cc
 pub made_ok : (t w : Table) (tree : Tree) (h : ℕ) → IsValid w h → tree_of w h ≡ tree → Grows t w tree → Makes tree t w (Ok h)
 made_ok t w tree h v e g = record { valid = v; is = e; grows = g; full = (λ x. absurd (never x), λ f. (let n = fits_in t w tree h g v e in absurd (omega (arith, n, f)))) }
 
+-- what was made over a table that had grown by the tree's branches at most
+pub makes_grown : (t w new : Table) (tree : Tree) (r : Result ℕ Full) → Grows t w tree → Makes tree w new r → Makes tree t new r
+makes_grown t w new tree (Ok h) g m = made_ok t new tree h m.valid m.is (chained t w new tree g m.grows)
+makes_grown t w new tree (Err e) g m = record {
+  valid = tt;
+  is = tt;
+  grows = chained t w new tree g m.grows;
+  full = (λ x. full_back t w tree tree g (λ q i. i) (m.full.0 x), λ f. refl);
+}
+
 -- what `make` says, of the tree that joins two others
 pub makes_node : (t w : Table) (tree : Tree) (r : Result ℕ Full) → IfOk r (λ h. IsValid w h) → IfOk r (λ h. tree_of w h ≡ tree) → KeepsTrees t w → OnOk r (HoldsAlso t w tree) → OnErr r (w ≡
     t) → IsShared w → (IsErr r ↔ (t.room < need t tree)) → Makes tree t w r
@@ -33,7 +43,7 @@ pub unfinished-le : (r : Result ℕ Full) (n : ℕ) → unfinished r n ≤ n
 unfinished-le (Ok h) n = omega arith
 unfinished-le (Err e) n = omega arith
 
-module _ (op : Op) (u v : ℕ) (t : Table) (m : Memo ℕ) (s : ℕ) (sh : IsShared t) (vu : IsValid t u) (vv : IsValid t v) (so : IsSound t m.pairs) where
+module _ (op : Op) (u v : ℕ) (t : Table) (m : Memo ℕ) (s : ℕ) (sh : IsShared t) (vu : IsValid t u) (vv : IsValid t v) (so : HoldsResults t m.pairs) where
   abbrev Whole : Tree
   Whole = op_tree op t u v
 
@@ -181,12 +191,12 @@ module _ (op : Op) (u v : ℕ) (t : Table) (m : Memo ℕ) (s : ℕ) (sh : IsShar
                 costs = costs_stored m o p s s2 h (place op u v) costs_both entries stored;
               }
             where
-              now : (y : Table) (h : ℕ) (p : Memo ℕ) → IsValid y h → tree_of y h ≡ Whole → Grows t y Whole → IsSound y o.pairs → (Adds o.pairs (place op u v) h p.pairs ⊎ ((p ≡ o) × (length
-                  o.pairs ≡ o.entries))) → IsSound y p.pairs
+              now : (y : Table) (h : ℕ) (p : Memo ℕ) → IsValid y h → tree_of y h ≡ Whole → Grows t y Whole → HoldsResults y o.pairs → (Adds o.pairs (place op u v) h p.pairs ⊎ ((p ≡ o) × (length
+                  o.pairs ≡ o.entries))) → HoldsResults y p.pairs
               now y h p vh is g before (inl adds) =
                   let a = g.keeps.trees u vu in let b = g.keeps.trees v vv in
                   sound_added y o.pairs p.pairs op u v h before a.0 b.0 vh (is ∙ sym (ap (λ z. apply_tree (truth_of op) z (tree_of y v)) a.1 ∙ ap (apply_tree (truth_of op) (tree_of t u)) b.1)) adds
-              now y h p vh is g before (inr same) = subst (λ z. IsSound y z) (sym (ap (λ (z : Memo ℕ). z.pairs) same.0)) before
+              now y h p vh is g before (inr same) = subst (λ z. HoldsResults y z) (sym (ap (λ (z : Memo ℕ). z.pairs) same.0)) before
 
               later : (h : ℕ) (p : Memo ℕ) → (Adds o.pairs (place op u v) h p.pairs ⊎ ((p ≡ o) × (length o.pairs ≡ o.entries))) → LeavesOthers t m.pairs p.pairs (number_of op) u v
               later h p (inl adds) = others_chained t m.pairs o.pairs p.pairs (number_of op) u v others_both (others_added t o.pairs p.pairs (number_of op) u v h adds)

@@ -10,7 +10,7 @@ use Rattle.bdd_ops.specs.declared.op.Op.{Op}
 use Rattle.bdd_ops.specs.declared.store.NodesFull.{NodesFull}
 use Rattle.bdd_ops.specs.Apply.{apply_tree}
 use Rattle.bdd_ops.specs.Numbers.{truth_of, place}
-use Rattle.bdd_ops.specs.Applied.{Makes, op_tree, IsSound, Applies}
+use Rattle.bdd_ops.specs.Applied.{Makes, op_tree, HoldsResults, Applies}
 use Rattle.bdd_ops.specs.Shelf.{Shelf, handle_pairs, HasRoom}
 use Rattle.bdd_ops.specs.Operates.{AllStay, Operates}
 use Rattle.bdd_ops.specs.Tried.{Tries}
@@ -20,9 +20,9 @@ use Rattle.bdd_ops.proofs.Growing.{keeps_same}
 use Rattle.bdd_ops.proofs.Tries.{stay_same, stay_valid, there_ends, tried_before, first_ok, stay_collected, again_ok, again_full}
 
 -- a try in a store that has room for all pairs of handles
-pub inside_bounded : (op : Op) (u v : ℕ) (x : Shelf) (t w : Table) (m n notes : Memo ℕ) (s k : ℕ) (r : Result ℕ Full) → record { table = t; memo = m; notes = notes } ≡ x → IsShared t → IsValid t u → IsValid t v
+pub inside_bounded : (op : Op) (u v : ℕ) (x : Shelf) (t w : Table) (m n : Memo ℕ) (s k : ℕ) (r : Result ℕ Full) → record { table = t; memo = m } ≡ x → IsShared t → IsValid t u → IsValid t v
     → IsMemo n → Applies op u v t w m n s k r → HasRoom x → k ≤ s + (2 * handle_pairs x.table + 4 * x.table.room)
-inside_bounded op u v x t w m n notes s k r e sh vu vv memo a =
+inside_bounded op u v x t w m n s k r e sh vu vv memo a =
     subst (λ (y : Shelf). HasRoom y → k ≤ s + (2 * handle_pairs y.table + 4 * y.table.room)) e (λ room. try_bounded op u v t w m n s k r sh vu vv memo a (omega (arith, room)))
 
 -- the values of an operation's tree
@@ -45,7 +45,7 @@ module _ (op : Op) (u v : ℕ) (roots : List ℕ) (t p : Table) (pr : p.room ≡
   began new r o = tried_before (op_tree op t u v) both roots t p new r pr so sr (subst (λ x. Operates x both roots p new r) ready_tree o)
 
   -- the memo has the tree
-  pub known_made : (m : Memo ℕ) (known : ℕ) → IsShared p → IsSound p m.pairs → Some known ≡ result_at m.pairs (place op u v) → Operates (op_tree op t u v) (u ∷ (v ∷ [])) roots t p (Ok known)
+  pub known_made : (m : Memo ℕ) (known : ℕ) → IsShared p → HoldsResults p m.pairs → Some known ≡ result_at m.pairs (place op u v) → Operates (op_tree op t u v) (u ∷ (v ∷ [])) roots t p (Ok known)
   known_made m known shared sound is =
       let known_is = sound.each op u v known (sym is) in
       began p (Ok known)

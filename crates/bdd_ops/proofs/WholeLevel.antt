@@ -10,28 +10,33 @@ use Rattle.node_table.specs.Collects.{AllValid, Collects}
 use Rattle.op_cache.specs.Memo.{Memo, IsMemo}
 use Rattle.bdd_ops.specs.declared.level.Merge.{Merge}
 use Rattle.bdd_ops.specs.declared.store.NodesFull.{NodesFull}
-use Rattle.bdd_ops.specs.Applied.{Makes, IsSound}
-use Rattle.bdd_ops.specs.Level.{at_level, merged, child, Remembers, Changes}
-use Rattle.bdd_ops.specs.Shelf.{Shelf, handle_pairs, IsLarge}
+use Rattle.bdd_ops.specs.Applied.{Makes, HoldsResults}
+use Rattle.bdd_ops.specs.Level.{at_level, merged, child, HoldsTrees, Changes}
+use Rattle.bdd_ops.specs.Shelf.{Shelf, handle_pairs, try_steps, IsLarge}
 use Rattle.bdd_ops.specs.Operates.{AllStay, Operates}
 use Rattle.bdd_ops.proofs.Memo.{sound_empty}
 use Rattle.bdd_ops.proofs.LevelLaws.{restrict-is}
 use Rattle.bdd_ops.proofs.Rest.{remembers_none}
-use Rattle.bdd_ops.proofs.LevelBounds.{change_bounded}
+use Rattle.bdd_ops.proofs.LevelBounds.{change_closely, try_few}
 use Rattle.bdd_ops.proofs.Tries.{stay_valid, tried_before, first_ok, stay_collected, again_ok, again_full}
 
 -- an empty memo holds nothing wrong
-pub nothing_wrong : (x : Shelf) (t : Table) (m notes : Memo ℕ) → record { table = t; memo = m; notes = notes } ≡ x → x.memo.pairs ≡ [] → IsSound t m.pairs
-nothing_wrong x t m notes e none = subst (IsSound t) (sym (ap (λ (y : Shelf). y.memo.pairs) e ∙ none)) (sound_empty t)
+pub nothing_wrong : (x : Shelf) (t : Table) (m : Memo ℕ) → record { table = t; memo = m } ≡ x → x.memo.pairs ≡ [] → HoldsResults t m.pairs
+nothing_wrong x t m e none = subst (HoldsResults t) (sym (ap (λ (y : Shelf). y.memo.pairs) e ∙ none)) (sound_empty t)
 
-pub nothing_remembered : (f : Tree → Tree) (n : ℕ) (x : Shelf) (t : Table) (m notes : Memo ℕ) → record { table = t; memo = m; notes = notes } ≡ x → x.memo.pairs ≡ [] → Remembers f n t m.pairs
-nothing_remembered f n x t m notes e none = subst (Remembers f n t) (sym (ap (λ (y : Shelf). y.memo.pairs) e ∙ none)) (remembers_none f n t)
+pub nothing_remembered : (f : Tree → Tree) (n : ℕ) (x : Shelf) (t : Table) (m : Memo ℕ) → record { table = t; memo = m } ≡ x → x.memo.pairs ≡ [] → HoldsTrees f n t m.pairs
+nothing_remembered f n x t m e none = subst (HoldsTrees f n t) (sym (ap (λ (y : Shelf). y.memo.pairs) e ∙ none)) (remembers_none f n t)
 
-pub level_bounded : (k : Merge) (level h : ℕ) (x : Shelf) (t w : Table) (m n notes : Memo ℕ) (s j : ℕ) (r : Result ℕ Full) → record { table = t; memo = m; notes = notes } ≡ x → x.memo.pairs ≡ [] → IsShared t →
-    IsValid t h → IsMemo n → Changes k level h t w m n s j r → IsLarge x → j ≤ s + 3 * handle_pairs x.table
-level_bounded k level h x t w m n notes s j r e none sh vh memo a =
+pub level_closely : (k : Merge) (level h : ℕ) (x : Shelf) (t w : Table) (m n : Memo ℕ) (s j : ℕ) (r : Result ℕ Full) → record { table = t; memo = m } ≡ x → x.memo.pairs ≡ [] → IsShared t →
+    IsValid t h → IsMemo n → Changes k level h t w m n s j r → IsLarge x → j ≤ s + try_steps x.table
+level_closely k level h x t w m n s j r e none sh vh memo a =
     let empty : m.pairs ≡ [] = ap (λ (y : Shelf). y.memo.pairs) e ∙ none in
-    subst (λ (y : Shelf). IsLarge y → j ≤ s + 3 * handle_pairs y.table) e (λ large. change_bounded k level h t w m n s j r sh vh empty large memo a)
+    subst (λ (y : Shelf). IsLarge y → j ≤ s + try_steps y.table) e (λ large. change_closely k level h t w m n s j r sh vh empty large memo a)
+
+pub level_bounded : (k : Merge) (level h : ℕ) (x : Shelf) (t w : Table) (m n : Memo ℕ) (s j : ℕ) (r : Result ℕ Full) → record { table = t; memo = m } ≡ x → x.memo.pairs ≡ [] → IsShared t →
+    IsValid t h → IsMemo n → Changes k level h t w m n s j r → IsLarge x → j ≤ s + 3 * handle_pairs x.table
+level_bounded k level h x t w m n s j r e none sh vh memo a large =
+    let c = level_closely k level h x t w m n s j r e none sh vh memo a large in let d = try_few x.table in omega (arith, c, d)
 
 pub same_first : (xs : List ℕ) (d : ℕ) → 0 < length xs → slice_index_or xs 0 d ≡ slice_index_or xs 0 0
 same_first [] d l = absurd (omega (arith, l))

@@ -29,7 +29,7 @@ abbrev pub op_tree : Op → Table → ℕ → ℕ → Tree
 op_tree op t u v = apply_tree (truth_of op) (tree_of t u) (tree_of t v)
 
 -- each pair of an operation holds its result, on valid handles
-pub record IsSound (t : Table) (pairs : List (Place × ℕ)) : Type 0 where
+pub record HoldsResults (t : Table) (pairs : List (Place × ℕ)) : Type 0 where
   pub each : (op : Op) (u v h : ℕ) → result_at pairs (place op u v) ≡ Some h → IsValid t u × IsValid t v × IsValid t h × (tree_of t h ≡ op_tree op t u v)
 
 -- how deep two trees are together
@@ -55,6 +55,6 @@ pub record Costs (old new : Memo ℕ) (before after unstored : ℕ) : Type 0 whe
 -- an operation's tree was made, by a memo of operations
 pub record Applies (op : Op) (u v : ℕ) (old new : Table) (memo later : Memo ℕ) (before after : ℕ) (r : Result ℕ Full) : Type 0 where
   pub made : Makes (op_tree op old u v) old new r
-  pub sound : IsSound new later.pairs
+  pub sound : HoldsResults new later.pairs
   pub others : LeavesOthers old memo.pairs later.pairs (number_of op) u v
   pub costs : Costs memo later before after (unfinished r (depths old u v))

@@ -12,7 +12,7 @@ use Rattle.bdd_ops.specs.declared.level.Merge.TheVariants.{Low, High, Either, Bo
 use Rattle.bdd_ops.specs.Apply.{apply_tree}
 use Rattle.bdd_ops.specs.Numbers.{truth_of, number_of}
 use Rattle.bdd_ops.specs.Parts.{IsBranch}
-use Rattle.bdd_ops.specs.Applied.{Makes, IsSound, depths, unfinished, Costs}
+use Rattle.bdd_ops.specs.Applied.{Makes, HoldsResults, depths, unfinished, Costs}
 
 -- g of the children in place of each branch of the level, joined again above
 abbrev pub at_level : (Tree → Tree → Tree) → ℕ → Tree → Tree
@@ -47,7 +47,7 @@ inner Either = Or
 inner Both = And
 
 -- each pair of the number is one node's, and holds what f makes of its tree
-pub record Remembers (f : Tree → Tree) (number : ℕ) (t : Table) (pairs : List (Place × ℕ)) : Type 0 where
+pub record HoldsTrees (f : Tree → Tree) (number : ℕ) (t : Table) (pairs : List (Place × ℕ)) : Type 0 where
   pub each : (u v k : ℕ) → result_at pairs (record { op = number; left = u; right = v }) ≡ Some k → (u ≡ v) × IsValid t u × IsBranch (tree_of t u) × IsValid t k × (tree_of t k ≡ f (tree_of t u))
 
 -- the pairs of other numbers than two, and of deeper trees, are as before
@@ -58,15 +58,15 @@ pub record LeavesRest (t : Table) (old new : List (Place × ℕ)) (a b u v : ℕ
 -- the tree without the level was made, by a memo of such trees
 pub record Changes (merge : Merge) (level h : ℕ) (old new : Table) (memo later : Memo ℕ) (before after : ℕ) (r : Result ℕ Full) : Type 0 where
   pub made : Makes (at_level (merged merge) level (tree_of old h)) old new r
-  pub sound : IsSound new later.pairs
-  pub remembers : Remembers (at_level (merged merge) level) (merge_number merge) new later.pairs
+  pub sound : HoldsResults new later.pairs
+  pub remembers : HoldsTrees (at_level (merged merge) level) (merge_number merge) new later.pairs
   pub others : LeavesRest old memo.pairs later.pairs (merge_number merge) (number_of (inner merge)) h h
   pub costs : Costs memo later (before + 1) after (unfinished r (depths old h h))
 
 -- what the operation at the level made of two trees
 pub record Merges (merge : Merge) (u v : ℕ) (old new : Table) (memo later : Memo ℕ) (before after : ℕ) (r : Result ℕ Full) : Type 0 where
   pub made : Makes (merged merge (tree_of old u) (tree_of old v)) old new r
-  pub sound : IsSound new later.pairs
+  pub sound : HoldsResults new later.pairs
   pub others : LeavesRest old memo.pairs later.pairs (number_of (inner merge)) (number_of (inner merge)) u v
   pub costs : Costs memo later before after (unfinished r (depths old u v))
 

@@ -6,7 +6,7 @@ ghost use Rattle.node_table.specs.Table.{tree_of, IsValid};
 ghost use Rattle.node_table.specs.Collects.{AllValid};
 ghost use Rattle.bdd_ops.specs.Apply.{map_leaves};
 ghost use Rattle.bdd_ops.specs.Numbers.{truth_of};
-ghost use Rattle.bdd_ops.specs.Applied.{op_tree, IsSound, Applies};
+ghost use Rattle.bdd_ops.specs.Applied.{op_tree, HoldsResults, Applies};
 ghost use Rattle.bdd_ops.specs.Shelf.{handle_pairs, HasRoom, IsBounded};
 ghost use Rattle.bdd_ops.specs.Operates.{Operates};
 
@@ -27,7 +27,7 @@ pub fn apply_inside<L: Ledger>(
 ) -> Result<Handle, Full>
     requires left { IsValid store.old.table u }
     requires right { IsValid store.old.table v }
-    requires sound { IsSound store.old.table store.old.memo.pairs }
+    requires sound { HoldsResults store.old.table store.old.memo.pairs }
     ensures applies { Applies op u v store.old.table store.new.table store.old.memo store.new.memo steps.old steps.new result }
     ensures bounded { HasRoom store.old → steps.new ≤ steps.old + (2 * handle_pairs store.old.table + 4 * store.old.table.room) }
 {
@@ -56,7 +56,7 @@ pub fn apply<L: Ledger>(
         (λ h. (bits : List Bool) → value (tree_of store.new.table h) bits ≡ truth_of op (value (tree_of store.old.table u) bits) (value (tree_of store.old.table v) bits)) }
     ensures bounded { IsBounded store.old steps.old steps.new }
     ensures entries { store.new.memo.entries ≡ store.old.memo.entries }
-    ensures sound { IsSound store.new.table store.new.memo.pairs }
+    ensures sound { HoldsResults store.new.table store.new.memo.pairs }
 {
     let operands = [u, v];
     store.make_ready(&operands, roots);
@@ -90,7 +90,7 @@ pub fn not<L: Ledger>(
     ensures values { IfOk result (λ n. (bits : List Bool) → value (tree_of store.new.table n) bits ≡ not (value (tree_of store.old.table h) bits)) }
     ensures bounded { IsBounded store.old steps.old steps.new }
     ensures entries { store.new.memo.entries ≡ store.old.memo.entries }
-    ensures sound { IsSound store.new.table store.new.memo.pairs }
+    ensures sound { HoldsResults store.new.table store.new.memo.pairs }
 {
     let one = store.table.one();
     apply(store, Op::AndNot, one, h, roots, steps)

@@ -3,7 +3,7 @@
 ghost use Rattle.std.specs.Prelude.{◌⊎◌};
 ghost use Rattle.node_table.specs.Table.{tree_of, IsValid};
 ghost use Rattle.bdd_ops.specs.Parts.{IsBranch};
-ghost use Rattle.bdd_ops.specs.Applied.{IsSound, Applies};
+ghost use Rattle.bdd_ops.specs.Applied.{HoldsResults, Applies};
 
 use crate::Op;
 use crate::once::at_once;
@@ -27,7 +27,7 @@ pub fn apply_parts<L: Ledger>(
 ) -> Result<Handle, Full>
     requires left { IsValid table.old u }
     requires right { IsValid table.old v }
-    requires sound { IsSound table.old cache.old.pairs }
+    requires sound { HoldsResults table.old cache.old.pairs }
     ensures { Applies op u v table.old table.new cache.old cache.new steps.old steps.new result }
 {
     let _held = table.live();
@@ -50,7 +50,7 @@ fn apply_nodes<L: Ledger>(
     requires left { IsValid table.old u }
     requires right { IsValid table.old v }
     requires node { IsBranch (tree_of table.old u) ⊎ IsBranch (tree_of table.old v) }
-    requires sound { IsSound table.old cache.old.pairs }
+    requires sound { HoldsResults table.old cache.old.pairs }
     ensures { Applies op u v table.old table.new cache.old cache.new steps.old steps.new result }
 {
     let _held = table.live();

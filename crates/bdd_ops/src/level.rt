@@ -3,8 +3,8 @@
 ghost use Rattle.std.specs.Prelude.{◌≡◌, ◌+◌, ◌<◌, MatchOption};
 ghost use Rattle.node_tree.specs.Tree.{top};
 ghost use Rattle.node_table.specs.Table.{tree_of, IsValid};
-ghost use Rattle.bdd_ops.specs.Applied.{IsSound};
-ghost use Rattle.bdd_ops.specs.Level.{at_level, merged, merge_number, Remembers, Changes, Merges, IsAbove};
+ghost use Rattle.bdd_ops.specs.Applied.{HoldsResults};
+ghost use Rattle.bdd_ops.specs.Level.{at_level, merged, merge_number, HoldsTrees, Changes, Merges, IsAbove};
 
 use crate::Op;
 use crate::combine::apply_parts;
@@ -91,7 +91,7 @@ fn merge_parts<L: Ledger>(
 ) -> Result<Handle, Full>
     requires low { IsValid table.old low }
     requires high { IsValid table.old high }
-    requires sound { IsSound table.old cache.old.pairs }
+    requires sound { HoldsResults table.old cache.old.pairs }
     ensures { Merges merge low high table.old table.new cache.old cache.new steps.old steps.new result }
 {
     let _held = table.live();
@@ -113,8 +113,8 @@ pub fn level_parts<L: Ledger>(
     steps: &mut Steps<L>,
 ) -> Result<Handle, Full>
     requires valid { IsValid table.old h }
-    requires sound { IsSound table.old cache.old.pairs }
-    requires remembers { Remembers (at_level (merged merge) level) (merge_number merge) table.old cache.old.pairs }
+    requires sound { HoldsResults table.old cache.old.pairs }
+    requires remembers { HoldsTrees (at_level (merged merge) level) (merge_number merge) table.old cache.old.pairs }
     ensures { Changes merge level h table.old table.new cache.old cache.new steps.old steps.new result }
 {
     let _held = table.live();

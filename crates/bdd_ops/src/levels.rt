@@ -5,9 +5,9 @@ ghost use Rattle.node_tree.specs.Tree.{value};
 ghost use Rattle.node_tree.specs.Restrict.{restrict, with_bit};
 ghost use Rattle.node_table.specs.Table.{tree_of, IsValid};
 ghost use Rattle.node_table.specs.Collects.{AllValid};
-ghost use Rattle.bdd_ops.specs.Applied.{IsSound};
+ghost use Rattle.bdd_ops.specs.Applied.{HoldsResults};
 ghost use Rattle.bdd_ops.specs.Level.{at_level, merged, child, Changes};
-ghost use Rattle.bdd_ops.specs.Shelf.{handle_pairs, IsLarge, IsBounded};
+ghost use Rattle.bdd_ops.specs.Shelf.{handle_pairs, try_steps, IsLarge, IsBounded};
 ghost use Rattle.bdd_ops.specs.Operates.{Operates};
 
 use crate::level::level_parts;
@@ -28,6 +28,7 @@ fn level_inside<L: Ledger>(
     requires empty { store.old.memo.pairs ≡ [] }
     ensures changes { Changes merge level h store.old.table store.new.table store.old.memo store.new.memo steps.old steps.new result }
     ensures bounded { IsLarge store.old → steps.new ≤ steps.old + 3 * handle_pairs store.old.table }
+    ensures closely { IsLarge store.old → steps.new ≤ steps.old + try_steps store.old.table }
 {
     let _nodes = store.table.live();
     let made = level_parts(&mut store.table, &mut store.cache, merge, level, h, steps);
@@ -50,8 +51,9 @@ pub fn change_level<L: Ledger>(
     requires roots { AllValid store.old.table roots.now }
     ensures made { Operates (at_level (merged merge) level (tree_of store.old.table (slice_index_or operands.now 0 0))) operands.now roots.now store.old.table store.new.table result }
     ensures bounded { IsBounded store.old steps.old steps.new }
+    ensures closely { IsLarge store.old → steps.new ≤ steps.old + 2 * try_steps store.old.table }
     ensures entries { store.new.memo.entries ≡ store.old.memo.entries }
-    ensures sound { IsSound store.new.table store.new.memo.pairs }
+    ensures sound { HoldsResults store.new.table store.new.memo.pairs }
 {
     let h = operands[0];
     store.make_ready(operands, roots);
@@ -88,7 +90,7 @@ pub fn restrict<L: Ledger>(
     ensures values { IfOk result (λ n. (bits : List Bool) → value (tree_of store.new.table n) bits ≡ value (tree_of store.old.table h) (with_bit bits level bit)) }
     ensures bounded { IsBounded store.old steps.old steps.new }
     ensures entries { store.new.memo.entries ≡ store.old.memo.entries }
-    ensures sound { IsSound store.new.table store.new.memo.pairs }
+    ensures sound { HoldsResults store.new.table store.new.memo.pairs }
 {
     let _held = store.live();
     let operands = [h];

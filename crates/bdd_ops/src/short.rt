@@ -2,7 +2,7 @@
 
 ghost use Rattle.std.specs.Prelude.{◌≡◌, ◌+◌, ◌*◌, ◌≤◌, ◌⊎◌};
 ghost use Rattle.node_table.specs.Table.{tree_of, IsValid};
-ghost use Rattle.bdd_ops.specs.Applied.{IsSound, op_tree};
+ghost use Rattle.bdd_ops.specs.Applied.{HoldsResults, op_tree};
 ghost use Rattle.bdd_ops.specs.Parts.{IsBranch};
 ghost use Rattle.bdd_ops.specs.Tried.{Tries};
 
@@ -84,7 +84,7 @@ pub fn apply_shortly<L: Ledger>(
     requires right { IsValid store.old.table v }
     ensures tried { Tries (op_tree op store.old.table u v) store.old.table store.new.table result }
     ensures memo { store.new.memo ≡ store.old.memo }
-    ensures sound { IsSound store.old.table store.old.memo.pairs → IsSound store.new.table store.new.memo.pairs }
+    ensures sound { HoldsResults store.old.table store.old.memo.pairs → HoldsResults store.new.table store.new.memo.pairs }
     ensures cost { steps.new ≤ steps.old + 2 * store.old.table.room }
 {
     let mut pairs = SHORT.min(store.table.room());

@@ -1,12 +1,12 @@
 //! A table and the memo of its operations.
 
-ghost use Rattle.std.specs.Prelude.{◌≡◌, [], ◌+◌, ◌*◌, ◌<◌, ◌≤◌, ◌↔◌, true, false, None, length, IfOk, IsTrue};
+ghost use Rattle.std.specs.Prelude.{◌≡◌, ℕ, [], ◌+◌, ◌*◌, ◌<◌, ◌≤◌, ◌↔◌, ◌==◌, if◌then◌else◌, Some, None, IfOk, IsTrue};
 ghost use Rattle.std.specs.Borrow.{sem};
-ghost use Rattle.node_tree.specs.Tree.{join, top};
-ghost use Rattle.node_table.specs.Table.{tree_of, IsValid, held, live_of, IsShared};
-ghost use Rattle.op_cache.specs.Memo.{result_at, Adds};
+ghost use Rattle.node_tree.specs.Tree.{Zero, join, top};
+ghost use Rattle.node_table.specs.Table.{tree_of, note_of, IsValid, held, live_of, IsShared};
+ghost use Rattle.op_cache.specs.Memo.{result_at};
 ghost use Rattle.node_table.specs.Collects.{AllValid, Collects};
-ghost use Rattle.bdd_ops.specs.Applied.{IsSound, Makes};
+ghost use Rattle.bdd_ops.specs.Applied.{HoldsResults, Grows, Makes};
 ghost use Rattle.bdd_ops.specs.Shelf.{IsLarge, HasRoom};
 ghost use Rattle.bdd_ops.specs.Operates.{AllStay};
 ghost use Rattle.bdd_ops.specs.Lent.{LendsTable, LendsMemo};
@@ -26,8 +26,6 @@ pub struct NodesFull;
 pub struct Store {
     pub(crate) table: NodeTable,
     pub(crate) cache: OpCache<Handle>,
-    /// What one walk of a crate above has found, so that it leaves the memo alone.
-    notes: OpCache<Handle>,
     /// Whether the memo is known to hold results alone.
     pub(crate) sound: bool,
     /// The number of nodes held at which the next operation collects before it begins.
@@ -43,11 +41,11 @@ impl Model for Store {
     ghost Value = { Shelf };
 
     ghost use Rattle.std.specs.Prelude.{◌≡◌, true};
-    ghost use Rattle.bdd_ops.specs.Applied.{IsSound};
+    ghost use Rattle.bdd_ops.specs.Applied.{HoldsResults};
 
-    ghost view = { λ s. record { table = s.table; memo = s.cache; notes = s.notes } };
+    ghost view = { λ s. record { table = s.table; memo = s.cache } };
 
-    ghost invariant = { λ s. s.sound ≡ true → IsSound s.table s.cache.pairs };
+    ghost invariant = { λ s. s.sound ≡ true → HoldsResults s.table s.cache.pairs };
 }
 
 impl Store {
@@ -61,12 +59,10 @@ impl Store {
         ensures empty { IfOk result (λ s. held s.table ≡ []) }
         ensures shared { IfOk result (λ s. IsShared s.table) }
         ensures memo { IfOk result (λ s. s.memo ≡ record { entries = entries; pairs = [] }) }
-        ensures notes { IfOk result (λ s. s.notes ≡ record { entries = nodes + 2; pairs = [] }) }
     {
         Ok(Store {
             table: NodeTable::open(alloc, nodes)?,
             cache: OpCache::open(alloc, entries)?,
-            notes: OpCache::open(alloc, nodes + 2)?,
             sound: false,
             limit: CROWD,
         })
@@ -95,8 +91,8 @@ impl Store {
         requires below_high { level < top (tree_of self.old.table high) }
         ensures made { Makes (join level (tree_of self.old.table low) (tree_of self.old.table high)) self.old.table self.new.table result }
         ensures memo { self.new.memo ≡ self.old.memo }
-        ensures notes { self.new.notes ≡ self.old.notes }
-        ensures sound { IsSound self.old.table self.old.memo.pairs → IsSound self.new.table self.new.memo.pairs }
+        ensures notes { (k : ℕ) → note_of self.new.table k ≡ note_of self.old.table k }
+        ensures sound { HoldsResults self.old.table self.old.memo.pairs → HoldsResults self.new.table self.new.memo.pairs }
     {
         self.table.make(level, low, high)
     }
@@ -108,33 +104,36 @@ impl Store {
         self.cache.find(key)
     }
 
-    /// What was noted for a key since the notes were cleared.
-    pub fn note(&self, key: Key<Handle>) -> Option<Handle>
-        ensures { result ≡ result_at self.now.notes.pairs (record { op = key.op; left = key.left; right = key.right }) }
+    /// What a walk has noted for a handle since the notes were cleared. Notes leave the memo alone.
+    pub fn note(&self, h: Handle) -> Option<Handle>
+        requires { IsValid self.now.table h }
+        ensures { result ≡ note_of self.now.table h }
     {
-        self.notes.find(key)
+        self.table.note(h)
     }
 
-    /// Notes what a walk has found for a key that has no note. False where there is room for no more, and then nothing
-    /// changes.
-    pub fn take_note(&mut self, key: Key<Handle>, answer: Handle) -> bool
-        requires { result_at self.old.notes.pairs (record { op = key.op; left = key.left; right = key.right }) ≡ None }
-        ensures full { (result ≡ false) ↔ (length self.old.notes.pairs ≡ self.old.notes.entries) }
-        ensures stored { result ≡ true → Adds self.old.notes.pairs (record { op = key.op; left = key.left; right = key.right }) answer self.new.notes.pairs }
-        ensures kept { result ≡ false → self.new.notes ≡ self.old.notes }
-        ensures table { self.new.table ≡ self.old.table }
+    /// Takes a note for a handle, in place of the one that it had. There is always room for it.
+    pub fn take_note(&mut self, h: Handle, found: Handle)
+        requires { IsValid self.old.table h }
+        ensures noted { (k : ℕ) → note_of self.new.table k ≡ (if k == h then Some found else note_of self.old.table k) }
+        ensures within { h < self.new.table.room + 2 }
+        ensures grows { Grows self.old.table self.new.table Zero }
+        ensures nodes { self.new.table.nodes ≡ self.old.table.nodes }
         ensures memo { self.new.memo ≡ self.old.memo }
     {
-        self.notes.store(key, answer)
+        let _held = self.table.live();
+        self.table.take_note(h, found);
     }
 
     /// Clears all notes, before a walk begins.
     pub fn clear_notes(&mut self)
-        ensures none { self.new.notes.pairs ≡ [] }
-        ensures table { self.new.table ≡ self.old.table }
+        ensures none { (k : ℕ) → note_of self.new.table k ≡ None }
+        ensures grows { Grows self.old.table self.new.table Zero }
+        ensures nodes { self.new.table.nodes ≡ self.old.table.nodes }
         ensures memo { self.new.memo ≡ self.old.memo }
     {
-        self.notes.begin();
+        let _held = self.table.live();
+        self.table.unmark_all();
     }
 
     /// The table, to be changed. The memo is then no longer known to be right.
@@ -171,7 +170,7 @@ impl Store {
     }
 
     /// Whether the memo can hold all results of an operation. Then the steps of an operation are bounded.
-    pub fn is_large(&self) -> bool
+    fn is_large(&self) -> bool
         ensures { IsTrue result ↔ IsLarge self.now }
     {
         self.most() <= self.entries()
@@ -193,7 +192,7 @@ impl Store {
     pub fn prepare(&mut self)
         ensures table { self.new.table ≡ self.old.table }
         ensures entries { self.new.memo.entries ≡ self.old.memo.entries }
-        ensures sound { IsSound self.new.table self.new.memo.pairs }
+        ensures sound { HoldsResults self.new.table self.new.memo.pairs }
         ensures room { IsLarge self.new → HasRoom self.new }
     {
         if !self.sound || (self.cache.room() as u64) < self.wanted() {
@@ -234,7 +233,7 @@ impl Store {
         ensures operands { AllStay self.old.table self.new.table operands.now }
         ensures roots { AllStay self.old.table self.new.table roots.now }
         ensures entries { self.new.memo.entries ≡ self.old.memo.entries }
-        ensures sound { IsSound self.new.table self.new.memo.pairs }
+        ensures sound { HoldsResults self.new.table self.new.memo.pairs }
         ensures room { IsLarge self.new → HasRoom self.new }
     {
         if self.table.live() >= self.limit {

@@ -8,7 +8,7 @@ use Rattle.std.proofs.lemmas.List.{ext_get_or, get_or-replicate, get_or_past, le
 use Rattle.node_table.specs.declared.node.Node.{Node}
 use Rattle.node_table.specs.declared.arrays.Slot.{Slot}
 use Rattle.node_table.specs.Unfold.{IsWell}
-use Rattle.node_table.specs.Table.{Table, numbers_below}
+use Rattle.node_table.specs.Table.{Notes, Table, numbers_below}
 use Rattle.node_table.specs.Chains.{IsChained, IsFree}
 use Rattle.node_table.specs.Arrays.{node_of, empty_slot, node_in, chain_in, table_of, IsKept}
 
@@ -16,8 +16,8 @@ use Rattle.node_table.specs.Arrays.{node_of, empty_slot, node_in, chain_in, tabl
 pub zeros : (n : ℕ) (heads : List ℕ) → heads ≡ replicate n 0 → (b : ℕ) → slice_index_or heads b 0 ≡ 0
 zeros n heads e b = ap (λ (hs : List ℕ). slice_index_or hs b 0) e ∙ ⊎_elim (λ (q : b < n). get_or-replicate n b 0 0 q) (λ (q : n ≤ b). get_or_past (replicate n 0) b 0 (omega (arith, q, length-replicate {A = ℕ} n 0))) (cases_lt b n)
 
-abbrev the_table : ℕ → List (Option Node) → List ℕ → ℕ → Table
-the_table room nodes marks round = record { room = room; nodes = nodes; marks = map (λ m. nat_eq m round) marks }
+abbrev the_table : ℕ → List (Option Node) → Notes → Table
+the_table room nodes notes = record { room = room; nodes = nodes; notes = notes }
 
 module _ (slots new : List Slot) (same : (h : ℕ) → node_in new h ≡ node_in slots h) (long : length new ≡ length slots) where
   all_nodes : node_in slots ≡ node_in new
@@ -29,8 +29,8 @@ module _ (slots new : List Slot) (same : (h : ℕ) → node_in new h ≡ node_in
       ext_get_or None (map node_of new) (map node_of slots) (length-map new node_of ∙ long ∙ sym (length-map slots node_of))
       (λ h l. get_or-map node_of new h empty_slot ∙ same h ∙ sym (get_or-map node_of slots h empty_slot))
 
-  pub table_stays : (room : ℕ) (marks : List ℕ) (round : ℕ) → table_of room new marks round ≡ table_of room slots marks round
-  table_stays room marks round = ap (λ (ns : List (Option Node)). the_table room ns marks round) nodes_stay
+  pub table_stays : (room : ℕ) (notes : Notes) → table_of room new notes ≡ table_of room slots notes
+  table_stays room notes = ap (λ (ns : List (Option Node)). the_table room ns notes) nodes_stay
 
   module _ (frees : (h : ℕ) → node_in slots h ≡ None → chain_in new h ≡ chain_in slots h) where
     free_stays : (first : ℕ) → IsFree (node_in slots) (chain_in slots) first (length slots) → IsFree (node_in new) (chain_in new) first (length new)

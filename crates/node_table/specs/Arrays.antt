@@ -3,7 +3,7 @@ use Rattle.std.specs.Prelude.{◌≡◌, ℕ, ◌+◌, ◌<◌, ◌≤◌, List,
 use Rattle.node_table.specs.declared.arrays.Slot.{Slot}
 use Rattle.node_table.specs.declared.node.Node.{Node}
 use Rattle.node_table.specs.Unfold.{IsWell}
-use Rattle.node_table.specs.Table.{Table, numbers_below}
+use Rattle.node_table.specs.Table.{Table, Notes, numbers_below}
 use Rattle.node_table.specs.Chains.{IsChained, IsFree}
 
 -- the node of a slot; in a free slot the children are equal
@@ -24,9 +24,13 @@ node_in slots h = node_of (slot_at slots h)
 abbrev pub chain_in : List Slot → ℕ → ℕ
 chain_in slots h = (slot_at slots h).chain
 
--- what the arrays stand for; a mark is the number of the round in which it was set
-abbrev pub table_of : ℕ → List Slot → List ℕ → ℕ → Table
-table_of room slots marks round = record { room = room; nodes = map node_of slots; marks = map (λ m. nat_eq m round) marks }
+-- notes, each with the number of the round in which it was taken
+abbrev pub notes_of : List ℕ → List ℕ → ℕ → Notes
+notes_of marks found round = record { marks = map (λ m. nat_eq m round) marks; found = found }
+
+-- what the arrays stand for
+abbrev pub table_of : ℕ → List Slot → Notes → Table
+table_of room slots notes = record { room = room; nodes = map node_of slots; notes = notes }
 
 -- slots in their buckets and in the chain of the free ones
 pub record IsLinked (room : ℕ) (slots : List Slot) (heads : List ℕ) (first_free : ℕ) : Type 0 where

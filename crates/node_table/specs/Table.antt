@@ -1,15 +1,20 @@
 -- What contracts see of a table of nodes.
-use Rattle.std.specs.Prelude.{◌≡◌, ℕ, zero, suc, ◌+◌, ◌≤◌, ◌∷◌, ◌++◌, ◌||◌, Bool, true, false, List, [], Option, None, is_some, if◌then◌else◌, map, length, slice_index_or}
+use Rattle.std.specs.Prelude.{◌≡◌, ℕ, zero, suc, ◌+◌, ◌≤◌, ◌∷◌, ◌++◌, ◌||◌, Bool, true, false, List, [], Option, Some, None, is_some, if◌then◌else◌, map, length, slice_index_or}
 use Rattle.std.specs.Set.{is_member, distinct_count}
 use Rattle.node_tree.specs.Tree.{Tree, Zero, One, tree_eq, branches, IsOrdered, IsReduced}
 use Rattle.node_table.specs.declared.node.Node.{Node}
 use Rattle.node_table.specs.Unfold.{tree_at, is_valid, IsWell}
 
--- how many nodes fit, the node of each number that has one, and whether a number is marked
+-- which numbers have a note, and what was last written for each
+pub record Notes : Type 0 where
+  pub marks : List Bool
+  pub found : List ℕ
+
+-- how many nodes fit, the node of each number that has one, and what was noted for a number
 pub record Table : Type 0 where
   pub room : ℕ
   pub nodes : List (Option Node)
-  pub marks : List Bool
+  pub notes : Notes
 
 -- the node of a number
 abbrev pub node_at : Table → ℕ → Option Node
@@ -23,9 +28,13 @@ tree_of t h = tree_at (node_at t) h
 abbrev pub IsValid : Table → ℕ → Type 0
 IsValid t h = is_valid (node_at t) h ≡ true
 
--- whether a handle is marked
+-- whether a handle is marked: it has a note
 abbrev pub is_marked : Table → ℕ → Bool
-is_marked t h = slice_index_or t.marks h false
+is_marked t h = slice_index_or t.notes.marks h false
+
+-- the note of a handle
+abbrev pub note_of : Table → ℕ → Option ℕ
+note_of t h = if is_marked t h then Some (slice_index_or t.notes.found h 0) else None
 
 -- the numbers below n that have a node
 abbrev pub numbers_below : (ℕ → Option Node) → ℕ → List ℕ

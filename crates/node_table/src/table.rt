@@ -1,15 +1,15 @@
 //! The table: what it promises, and how a node is made.
 
-ghost use Rattle.std.specs.Prelude.{◌≡◌, ℕ, [], ◌+◌, ◌<◌, ◌≤◌, ◌↔◌, true, false, IfOk, OnOk, OnErr, IsErr, IsTrue, ◌==◌, if◌then◌else◌};
+ghost use Rattle.std.specs.Prelude.{◌≡◌, ℕ, [], ◌+◌, Some, None, ◌<◌, ◌≤◌, ◌↔◌, true, false, IfOk, OnOk, OnErr, IsErr, IsTrue, ◌==◌, if◌then◌else◌};
 ghost use Rattle.node_tree.specs.Tree.{Tree, Zero, One, join, top};
-ghost use Rattle.node_table.specs.Table.{Table, tree_of, IsValid, is_marked, held, live_of, need, KeepsTrees, HoldsAlso, IsShared};
+ghost use Rattle.node_table.specs.Table.{Table, tree_of, IsValid, is_marked, note_of, held, live_of, need, KeepsTrees, HoldsAlso, IsShared};
 ghost use Rattle.node_table.specs.Tells.{TellsTree};
 ghost use Rattle.node_table.specs.Collects.{AllValid, Collects};
 
 use crate::arrays::{Slot, bucket_of, buckets_for, find, hold, open_heads, open_slots, set_up};
 use crate::collect::{mark_trees, rebuild, relink};
 use crate::handle::{Branch, Handle};
-use crate::marks::new_round;
+use crate::marks::{new_round, read, write};
 use crate::node::Node;
 use mon_base::{NoMemory, Steps};
 use std::alloc::Global;
@@ -29,13 +29,13 @@ pub struct NodeTable {
     slots: Vec<Slot>,
     /// By bucket, the greatest number in it. There are few where few nodes are held, since a small table is a fast one.
     heads: Vec<u32>,
-    /// By number, the round in which it was last marked.
+    /// By number, the round of its last note.
     marks: Vec<u32>,
-    /// The nodes of a collection whose children are still to be marked.
-    waiting: Vec<u32>,
+    /// By number, what its last note says; in a collection, the nodes whose children are still to be marked.
+    found: Vec<u32>,
     /// The least number whose slot is free, or 0.
     free: u32,
-    /// The round of marks that counts.
+    /// The round of notes that counts.
     round: u32,
     /// How many nodes are held.
     live: u32,
@@ -47,11 +47,11 @@ impl Model for NodeTable {
 
     ghost Value = { Table };
 
-    ghost use Rattle.node_table.specs.Arrays.{table_of, IsKept};
+    ghost use Rattle.node_table.specs.Arrays.{notes_of, table_of, IsKept};
 
-    ghost view = { λ a. table_of a.room a.slots.items a.marks.items a.round };
+    ghost view = { λ a. table_of a.room a.slots.items (notes_of a.marks.items a.found.items a.round) };
 
-    ghost invariant = { λ a. IsKept a.room a.slots.items a.heads.items a.marks.items a.free a.round a.live × (a.room + 2 ≤ vec_capacity a.slots) × (a.room + 2 ≤ vec_capacity a.marks) × (a.room + 2 ≤ vec_capacity a.waiting) };
+    ghost invariant = { λ a. IsKept a.room a.slots.items a.heads.items a.marks.items a.free a.round a.live × (a.room + 2 ≤ vec_capacity a.slots) × (a.room + 2 ≤ vec_capacity a.marks) × (a.room + 2 ≤ vec_capacity a.found) };
 }
 
 impl NodeTable {
@@ -69,7 +69,7 @@ impl NodeTable {
             slots,
             heads: open_heads(alloc, nodes)?,
             marks,
-            waiting: Vec::with_capacity(alloc, nodes as usize + 2)?,
+            found: Vec::with_capacity(alloc, nodes as usize + 2)?,
             free: 0,
             round: 1,
             live: 0,
@@ -156,6 +156,7 @@ impl NodeTable {
         ensures held { OnOk result (HoldsAlso self.old self.new (join level (tree_of self.old low) (tree_of self.old high))) }
         ensures live { OnOk result (live_of self.new ≡ need self.old (join level (tree_of self.old low) (tree_of self.old high))) }
         ensures full { IsErr result ↔ (self.old.room < need self.old (join level (tree_of self.old low) (tree_of self.old high))) }
+        ensures notes { (h : ℕ) → note_of self.new h ≡ note_of self.old h }
         ensures err { OnErr result (self.new ≡ self.old) }
         ensures shared { IsShared self.new }
     {
@@ -200,6 +201,7 @@ impl NodeTable {
         ensures held { OnOk result (HoldsAlso self.old self.new (join level (tree_of self.old low) (tree_of self.old high))) }
         ensures live { OnOk result (live_of self.new ≡ need self.old (join level (tree_of self.old low) (tree_of self.old high))) }
         ensures full { IsErr result ↔ (self.old.room < need self.old (join level (tree_of self.old low) (tree_of self.old high))) }
+        ensures notes { (h : ℕ) → note_of self.new h ≡ note_of self.old h }
         ensures err { OnErr result (self.new ≡ self.old) }
         ensures shared { IsShared self.new }
     {
@@ -218,7 +220,7 @@ impl NodeTable {
         let live = mark_trees(
             &self.slots,
             &mut self.marks,
-            &mut self.waiting,
+            &mut self.found,
             round,
             roots,
             more,
@@ -231,16 +233,42 @@ impl NodeTable {
         self.free = free;
     }
 
-    /// Leaves no handle marked. It visits no node, but where the rounds are counted from 1 again.
+    /// What was noted for a handle since the notes were cleared.
+    pub fn note(&self, h: Handle) -> Option<Handle>
+        requires { IsValid self.now h }
+        ensures { result ≡ note_of self.now h }
+    {
+        if self.marks[h.number as usize] != self.round {
+            return None;
+        }
+        Some(Handle {
+            number: read(&self.found, h.number),
+        })
+    }
+
+    /// Takes a note for a handle, in place of the one that it had. There is always room for it.
+    pub fn take_note(&mut self, h: Handle, found: Handle)
+        requires { IsValid self.old h }
+        ensures noted { (k : ℕ) → note_of self.new k ≡ (if k == h then Some found else note_of self.old k) }
+        ensures within { h < self.new.room + 2 }
+        ensures room { self.new.room ≡ self.old.room }
+        ensures nodes { self.new.nodes ≡ self.old.nodes }
+    {
+        let round = self.round;
+        self.marks[h.number as usize] = round;
+        write(&mut self.found, h.number, found.number);
+    }
+
+    /// Leaves no handle marked, and so no note. It visits no node, but where the rounds are counted from 1 again.
     pub fn unmark_all(&mut self)
-        ensures none { (h : ℕ) → is_marked self.new h ≡ false }
+        ensures none { (h : ℕ) → note_of self.new h ≡ None }
         ensures room { self.new.room ≡ self.old.room }
         ensures nodes { self.new.nodes ≡ self.old.nodes }
     {
         self.round = new_round(&mut self.marks, self.round);
     }
 
-    /// Marks a handle, and says whether it wasn't marked before.
+    /// Marks a handle by a note, and says whether it had none before. What the note says is left open.
     pub fn mark(&mut self, h: Handle) -> bool
         requires { IsValid self.old h }
         ensures first { IsTrue result ↔ (is_marked self.old h ≡ false) }

@@ -52,7 +52,8 @@ impl<H: Copy + Numbered> OpCache<H> {
         ensures empty { IfOk result (λ c. c ≡ record { entries = entries; pairs = [] }) }
         ensures sound { IfOk result IsMemo }
     {
-        let limit = entries.next_power_of_two() as usize;
+        // one head for two entries: where more than half are held, two stand in a bucket on the average
+        let limit = entries.next_power_of_two() as usize / 2;
         let mut heads = Vec::with_capacity(alloc, limit.max(START))?;
         reach(&mut heads, START, 0);
         Ok(OpCache {

@@ -4,13 +4,14 @@ ghost use Rattle.std.specs.Prelude.{◌≡◌, ◌+◌, ◌*◌, ◌<◌, ◌≤
 ghost use Rattle.node_tree.specs.Tree.{Zero, One};
 ghost use Rattle.node_table.specs.Table.{tree_of, IsValid};
 ghost use Rattle.node_table.specs.Collects.{AllValid};
-ghost use Rattle.bdd_ops.specs.Applied.{IsSound};
-ghost use Rattle.bdd_ops.specs.Shelf.{handle_pairs, IsLarge};
+ghost use Rattle.bdd_ops.specs.Applied.{HoldsResults};
+ghost use Rattle.bdd_ops.specs.Shelf.{handle_pairs, try_steps, IsLarge};
+ghost use Rattle.node_tree.specs.Levels.{LevelsBelow};
 ghost use Rattle.quantify.specs.Quantified.{after_rows};
 ghost use Rattle.quantify.specs.Rows.{Quantifies};
 
 use crate::bit::merge_of;
-use crate::deepest::{cut_off, is_before};
+use crate::deepest::cut_deepest;
 use bdd_ops::{NodesFull, Store, change_level};
 use mon_base::Steps;
 use node_table::{Block, Handle, NodeTable};
@@ -58,6 +59,7 @@ fn rows_from<L: Ledger>(
     requires roots { AllValid store.old.table roots.now }
     ensures made { Quantifies all block.first block.bits done h roots.now store.old.table store.new.table result }
     ensures bounded { IsLarge store.old → steps.new + done * (6 * handle_pairs store.old.table) ≤ steps.old + block.bits * (6 * handle_pairs store.old.table) }
+    ensures closely { IsLarge store.old → done < block.bits → steps.new + (done + 1) * (6 * handle_pairs store.old.table) ≤ steps.old + block.bits * (6 * handle_pairs store.old.table) + 2 * try_steps store.old.table }
     ensures entries { store.new.memo.entries ≡ store.old.memo.entries }
 {
     let _held = store.live();
@@ -84,25 +86,71 @@ fn rows_at_once<L: Ledger>(
     all: bool,
     h: Handle,
     block: Block,
+    known: bool,
     roots: &[Handle],
     steps: &mut Steps<L>,
 ) -> Result<Handle, BlockFull>
     requires block { block.first + block.bits ≤ 65536 }
+    requires some { 0 < block.bits }
     requires operand { IsValid store.old.table h }
+    requires known { IsTrue known → LevelsBelow (block.first + block.bits) (tree_of store.old.table h) }
     requires roots { AllValid store.old.table roots.now }
     ensures made { Quantifies all block.first block.bits 0 h roots.now store.old.table store.new.table result }
+    ensures bounded { IsLarge store.old → steps.new ≤ steps.old + block.bits * (6 * handle_pairs store.old.table) }
     ensures entries { store.new.memo.entries ≡ store.old.memo.entries }
 {
     let operands = [h];
     store.make_ready(&operands, roots);
-    let end = block.first as u32 + block.bits as u32;
-    if is_before(store, end, h, steps) {
-        let _held = store.live();
-        if let Some(made) = cut_off(store, all, block, h, steps) {
-            return Ok(made);
-        }
+    let _held = store.live();
+    if let Some(made) = cut_deepest(store, all, block, h, known, steps) {
+        return Ok(made);
     }
     rows_from(store, all, h, block, 0, h, roots, steps)
+}
+
+/// The rows of a block, of which it may be known that it is the deepest. A leaf has no bit to take, nor has an empty
+/// block.
+fn rows<L: Ledger>(
+    store: &mut Store,
+    all: bool,
+    h: Handle,
+    block: Block,
+    known: bool,
+    roots: &[Handle],
+    steps: &mut Steps<L>,
+) -> Result<Handle, BlockFull>
+    requires block { block.first + block.bits ≤ 65536 }
+    requires valid { IsValid store.old.table h }
+    requires known { IsTrue known → LevelsBelow (block.first + block.bits) (tree_of store.old.table h) }
+    requires roots { AllValid store.old.table roots.now }
+    ensures made { Quantifies all block.first block.bits 0 h roots.now store.old.table store.new.table result }
+    ensures bounded { IsLarge store.old → steps.new ≤ steps.old + block.bits * (6 * handle_pairs store.old.table) }
+    ensures entries { store.new.memo.entries ≡ store.old.memo.entries }
+{
+    if block.bits == 0 || is_leaf(store.table(), h) {
+        return rows_from(store, all, h, block, 0, h, roots, steps);
+    }
+    rows_at_once(store, all, h, block, known, roots, steps)
+}
+
+/// `quantify_block` of a tree that has no level behind the block. It makes no walk to find that out.
+pub fn quantify_deepest<L: Ledger>(
+    store: &mut Store,
+    all: bool,
+    h: Handle,
+    block: Block,
+    roots: &[Handle],
+    steps: &mut Steps<L>,
+) -> Result<Handle, BlockFull>
+    requires block { block.first + block.bits ≤ 65536 }
+    requires valid { IsValid store.old.table h }
+    requires deepest { LevelsBelow (block.first + block.bits) (tree_of store.old.table h) }
+    requires roots { AllValid store.old.table roots.now }
+    ensures made { Quantifies all block.first block.bits 0 h roots.now store.old.table store.new.table result }
+    ensures bounded { IsLarge store.old → steps.new ≤ steps.old + block.bits * (6 * handle_pairs store.old.table) }
+    ensures entries { store.new.memo.entries ≡ store.old.memo.entries }
+{
+    rows(store, all, h, block, true, roots, steps)
 }
 
 /// The disjunction over all values of a block's bits, or with `all` the conjunction. Row r is the r-th bit taken.
@@ -121,9 +169,5 @@ pub fn quantify_block<L: Ledger>(
     ensures bounded { IsLarge store.old → steps.new ≤ steps.old + block.bits * (6 * handle_pairs store.old.table) }
     ensures entries { store.new.memo.entries ≡ store.old.memo.entries }
 {
-    // The bound on steps is one for each row.
-    if store.is_large() || is_leaf(store.table(), h) {
-        return rows_from(store, all, h, block, 0, h, roots, steps);
-    }
-    rows_at_once(store, all, h, block, roots, steps)
+    rows(store, all, h, block, false, roots, steps)
 }

@@ -1,7 +1,7 @@
 use Rattle.std.proofs.Common.{subst}
 use Rattle.node_tree.specs.Tree.{join}
 use Rattle.node_table.specs.Table.{tree_of}
-use Rattle.bdd_ops.specs.Applied.{Makes, IsSound}
+use Rattle.bdd_ops.specs.Applied.{Makes, HoldsResults}
 use Rattle.bdd_ops.specs.Shelf.{Shelf}
 use Rattle.bdd_ops.proofs.Memo.{sound_kept}
 use Rattle.bdd_ops.proofs.Stages.{makes_node}
@@ -18,5 +18,5 @@ returns-clause-made c =
 
 pub returns-clause-sound : goal.returns-clause-sound
 returns-clause-sound c =
-    subst (λ (x : Shelf). IsSound x.table x.memo.pairs → IsSound c.make.new.self c.self.inside.cache.pairs) c.self.view_is
+    subst (λ (x : Shelf). HoldsResults x.table x.memo.pairs → HoldsResults c.make.new.self c.self.inside.cache.pairs) c.self.view_is
     (λ e. sound_kept c.self.inside.table c.make.new.self c.self.inside.cache.pairs c.make.ensures.kept e)

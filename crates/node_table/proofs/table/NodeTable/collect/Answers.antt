@@ -4,7 +4,7 @@ use Rattle.std.specs.Prelude.{true}
 use Rattle.node_table.specs.declared.arrays.Slot.{Slot}
 use Rattle.node_table.specs.Unfold.{is_valid}
 use Rattle.node_table.specs.Table.{Table, IsShared}
-use Rattle.node_table.specs.Arrays.{node_in, table_of, IsKept}
+use Rattle.node_table.specs.Arrays.{notes_of, node_in, table_of, IsKept}
 use Rattle.node_table.specs.Marks.{MarksNodes, MarksTrees, swept_from}
 use Rattle.node_table.specs.Collects.{AllValid, Collects}
 use Rattle.node_table.proofs.Keeping.{came_back}
@@ -16,12 +16,12 @@ use Rattle.node_table.proofs.table.NodeTable.collect.Goals as goal
 pub mark_trees-live-requires-clause-roots : goal.mark_trees-live-requires-clause-roots
 mark_trees-live-requires-clause-roots c =
     subst (λ (s : List Slot). (j : ℕ) → j < length c.args.roots.now → is_valid (node_in s) (slice_index_or c.args.roots.now j 0) ≡ true) (sym c.deref.ensures.value)
-    (valid_inside c.self.inside.room c.self.inside.slots.items c.self.inside.marks.items c.self.inside.round c.args.roots.now (subst (λ t. AllValid t c.args.roots.now) (sym c.self.view_is) c.requires.roots))
+    (valid_inside c.self.inside.room c.self.inside.slots.items (notes_of c.self.inside.marks.items c.self.inside.found.items c.self.inside.round) c.args.roots.now (subst (λ t. AllValid t c.args.roots.now) (sym c.self.view_is) c.requires.roots))
 
 pub mark_trees-live-requires-clause-more : goal.mark_trees-live-requires-clause-more
 mark_trees-live-requires-clause-more c =
     subst (λ (s : List Slot). (j : ℕ) → j < length c.args.more.now → is_valid (node_in s) (slice_index_or c.args.more.now j 0) ≡ true) (sym c.deref.ensures.value)
-    (valid_inside c.self.inside.room c.self.inside.slots.items c.self.inside.marks.items c.self.inside.round c.args.more.now (subst (λ t. AllValid t c.args.more.now) (sym c.self.view_is) c.requires.more))
+    (valid_inside c.self.inside.room c.self.inside.slots.items (notes_of c.self.inside.marks.items c.self.inside.found.items c.self.inside.round) c.args.more.now (subst (λ t. AllValid t c.args.more.now) (sym c.self.view_is) c.requires.more))
 
 pub rebuild-free-requires-clause-nodes : goal.rebuild-free-requires-clause-nodes
 rebuild-free-requires-clause-nodes c =
@@ -41,8 +41,8 @@ buckets_there c =
 
 -- the arrays after the collection
 left : (c : goal.After-self-7-1) →
-    let new : Table = table_of c.self.inside.room c.rebuild-free.new.slots c.mark_trees-live.new.marks c.new_round-round.result in
-    IsKept c.self.inside.room c.rebuild-free.new.slots c.rebuild-free.new.heads c.mark_trees-live.new.marks c.rebuild-free.result c.new_round-round.result c.mark_trees-live.result × IsShared new × Collects (table_of c.self.inside.room c.self.inside.slots.items c.self.inside.marks.items c.self.inside.round) new c.args.roots.now c.args.more.now
+    let new : Table = table_of c.self.inside.room c.rebuild-free.new.slots (notes_of c.mark_trees-live.new.marks c.mark_trees-live.new.waiting.items c.new_round-round.result) in
+    IsKept c.self.inside.room c.rebuild-free.new.slots c.rebuild-free.new.heads c.mark_trees-live.new.marks c.rebuild-free.result c.new_round-round.result c.mark_trees-live.result × IsShared new × Collects (table_of c.self.inside.room c.self.inside.slots.items (notes_of c.self.inside.marks.items c.self.inside.found.items c.self.inside.round)) new c.args.roots.now c.args.more.now
 left c =
     let kept = c.self.invariant.0 in
     let slots = c.self.inside.slots.items in
@@ -59,12 +59,12 @@ left c =
     let roots = subst (λ t. AllValid t c.args.roots.now) (sym c.self.view_is) c.requires.roots in
     let more = subst (λ t. AllValid t c.args.more.now) (sym c.self.view_is) c.requires.more in (
       left_kept c.self.inside.room slots c.self.inside.heads.items c.self.inside.marks.items c.self.inside.free c.self.inside.round c.self.inside.live kept
-          c.rebuild-free.new.slots c.rebuild-free.new.heads marks c.rebuild-free.result round c.args.roots.now c.args.more.now trees swept c.rebuild-free.ensures.chained c.rebuild-free.ensures.free as_long some places
+          c.rebuild-free.new.slots c.rebuild-free.new.heads marks c.rebuild-free.result round c.args.roots.now c.args.more.now trees swept c.rebuild-free.ensures.chained c.rebuild-free.ensures.free as_long some places (notes_of c.self.inside.marks.items c.self.inside.found.items c.self.inside.round) (notes_of c.mark_trees-live.new.marks c.mark_trees-live.new.waiting.items c.new_round-round.result)
           c.mark_trees-live.ensures.rounds c.new_round-round.ensures.started c.mark_trees-live.result c.mark_trees-live.ensures.count,
-      shared (table_of c.self.inside.room c.rebuild-free.new.slots marks round) (left_table c.self.inside.room slots c.self.inside.heads.items c.self.inside.marks.items c.self.inside.free c.self.inside.round c.self.inside.live kept
-          c.rebuild-free.new.slots c.rebuild-free.new.heads marks c.rebuild-free.result round c.args.roots.now c.args.more.now trees swept c.rebuild-free.ensures.chained c.rebuild-free.ensures.free as_long some places),
+      shared (table_of c.self.inside.room c.rebuild-free.new.slots (notes_of c.mark_trees-live.new.marks c.mark_trees-live.new.waiting.items c.new_round-round.result)) (left_table c.self.inside.room slots c.self.inside.heads.items c.self.inside.marks.items c.self.inside.free c.self.inside.round c.self.inside.live kept
+          c.rebuild-free.new.slots c.rebuild-free.new.heads marks c.rebuild-free.result round c.args.roots.now c.args.more.now trees swept c.rebuild-free.ensures.chained c.rebuild-free.ensures.free as_long some places (notes_of c.self.inside.marks.items c.self.inside.found.items c.self.inside.round) (notes_of c.mark_trees-live.new.marks c.mark_trees-live.new.waiting.items c.new_round-round.result)),
       left_collected c.self.inside.room slots c.self.inside.heads.items c.self.inside.marks.items c.self.inside.free c.self.inside.round c.self.inside.live kept
-          c.rebuild-free.new.slots c.rebuild-free.new.heads marks c.rebuild-free.result round c.args.roots.now c.args.more.now trees swept c.rebuild-free.ensures.chained c.rebuild-free.ensures.free as_long some places roots more,
+          c.rebuild-free.new.slots c.rebuild-free.new.heads marks c.rebuild-free.result round c.args.roots.now c.args.more.now trees swept c.rebuild-free.ensures.chained c.rebuild-free.ensures.free as_long some places (notes_of c.self.inside.marks.items c.self.inside.found.items c.self.inside.round) (notes_of c.mark_trees-live.new.marks c.mark_trees-live.new.waiting.items c.new_round-round.result) roots more,
     )
 
 -- what came back from the slices
@@ -99,8 +99,8 @@ invariant_of-self c = (
 
 pub returns-clause-collected : goal.returns-clause-collected
 returns-clause-collected c =
-    all_back (λ s h m. Collects c.args.self.now (table_of c.self.inside.room s m c.new_round-round.result) c.args.roots.now c.args.more.now) c
-    (subst (λ (t : Table). Collects t (table_of c.self.inside.room c.rebuild-free.new.slots c.mark_trees-live.new.marks c.new_round-round.result) c.args.roots.now c.args.more.now) c.self.view_is (left c).2)
+    all_back (λ s h m. Collects c.args.self.now (table_of c.self.inside.room s (notes_of m c.mark_trees-live.new.waiting.items c.new_round-round.result)) c.args.roots.now c.args.more.now) c
+    (subst (λ (t : Table). Collects t (table_of c.self.inside.room c.rebuild-free.new.slots (notes_of c.mark_trees-live.new.marks c.mark_trees-live.new.waiting.items c.new_round-round.result)) c.args.roots.now c.args.more.now) c.self.view_is (left c).2)
 
 pub returns-clause-shared : goal.returns-clause-shared
-returns-clause-shared c = all_back (λ s h m. IsShared (table_of c.self.inside.room s m c.new_round-round.result)) c (left c).1
+returns-clause-shared c = all_back (λ s h m. IsShared (table_of c.self.inside.room s (notes_of m c.mark_trees-live.new.waiting.items c.new_round-round.result))) c (left c).1

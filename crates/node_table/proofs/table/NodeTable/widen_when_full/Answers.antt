@@ -2,7 +2,7 @@ use Rattle.std.proofs.Common.{◌≡◌, ℕ, ◌<◌, ◌*◌, List, length, ta
 use Rattle.std.specs.Prelude.{None}
 use Rattle.std.proofs.lemmas.List.{length-replicate}
 use Rattle.node_table.specs.declared.arrays.Slot.{Slot}
-use Rattle.node_table.specs.Arrays.{node_in, chain_in, table_of, IsKept}
+use Rattle.node_table.specs.Arrays.{notes_of, node_in, chain_in, table_of, IsKept}
 use Rattle.node_table.proofs.Keeping.{came_back}
 use Rattle.node_table.proofs.Widening.{kept_widened, table_stays}
 use Rattle.node_table.proofs.table.NodeTable.widen_when_full.Goals as goal
@@ -39,4 +39,4 @@ pub returns : goal.returns
 returns c =
     let s = c.self.inside in
     let long : length c.relink.new.slots ≡ length s.slots.items = omega arith in
-    ap (λ (z : List Slot). table_of s.room z s.marks.items s.round) (slots_back c) ∙ table_stays s.slots.items c.relink.new.slots (nodes c) long s.room s.marks.items s.round ∙ c.self.view_is
+    ap (λ (z : List Slot). table_of s.room z (notes_of s.marks.items s.found.items s.round)) (slots_back c) ∙ table_stays s.slots.items c.relink.new.slots (nodes c) long s.room (notes_of s.marks.items s.found.items s.round) ∙ c.self.view_is
