@@ -1,0 +1,9 @@
+pub mod Bits
+pub mod Chains
+pub mod Entries
+pub mod Ages
+pub mod Taken
+pub mod Spelling
+pub mod Walking
+pub mod Others
+pub mod Tested
