@@ -1,19 +1,13 @@
 -- Entries of a list of needs: where a new one goes, and what it adds.
-use Rattle.std.proofs.Common.{◌≡◌, ℕ, ◌+◌, ◌<◌, ◌≤◌, List, [], ◌∷◌, ◌++◌, take, drop, length, get_or, Option, Some, None, Bool, true, false, refl, ap, sym, ◌∙◌, append-nil, add-one, drop-cons, arith}
-use Rattle.std.specs.Prelude.{slice_get, slice_index_or, nat_eq, if◌then◌else◌, ◌||◌, bytes_eq}
-use Rattle.std.specs.List.{AllByRecursion, IsDistinct, list_any, insert}
+use Rattle.std.proofs.Common.{◌≡◌, ℕ, ◌+◌, ◌<◌, ◌≤◌, List, [], ◌∷◌, ◌++◌, take, drop, length, get_or, Bool, true, false, refl, ap, sym, ◌∙◌, append-nil, add-one, drop-cons, arith}
+use Rattle.std.specs.Prelude.{slice_index_or, nat_eq, if◌then◌else◌, bytes_eq}
+use Rattle.std.specs.List.{AllByRecursion, list_any, insert}
 use Rattle.std.proofs.lemmas.Bool.Decides.{nat_tests}
 use Rattle.std.proofs.lemmas.List.{get_or_default, take-append-drop}
 use Rattle.std.proofs.lemmas.List.Concat.{flat_map-append}
-use Rattle.std.proofs.lemmas.Map.Keys.{IsDistinct-head, IsDistinct-tail}
-use Rattle.std.proofs.lemmas.Option.{slice_get-get_or}
-use Rattle.std.proofs.lemmas.Slice.Eq.{bytes_eq-Decides}
 use Rattle.qtl_syntax.specs.Tree.{Text}
-use Rattle.qtl_truth.specs.declared.matching.Place.{Place}
-use Rattle.qtl_truth.specs.Matching.{arg_at, place_variables, ArgsBelow}
 use Rattle.subformulas.specs.declared.need_list.Need.{Need}
-use Rattle.subformulas.specs.NeedList.{AreByVariable, entries_of, entry_texts, texts_for, with_text, with_texts}
-use Rattle.subformulas.specs.Needs.{as_list}
+use Rattle.subformulas.specs.NeedList.{AreByVariable, entry_texts, texts_for, with_text, with_texts}
 
 -- what holds of each, in parts
 all_append : (P : Need → Type 0) (fs bs : List Need) → AllByRecursion P fs → AllByRecursion P bs → AllByRecursion P (fs ++ bs)
@@ -86,74 +80,12 @@ with_more : (ts us vs : List Text) → with_texts ts (us ++ vs) ≡ with_texts (
 with_more ts [] vs = refl
 with_more ts (u ∷ us) vs = with_more (with_text ts u) us vs
 
--- the places of a binding give each variable what the event gives it
-none_by : (b : Bool) (x y : ℕ) (t : Text) → nat_eq x y ≡ b → nat_eq x y ≡ false → (if b then t ∷ [] else []) ≡ []
-none_by true x y t e f = let no : true ≡ false = sym e ∙ f in absurd (let never : ⊥ = cc in never)
-none_by false x y t e f = refl
-
-no_places : (x : ℕ) (args : List Text) (ps : List Place) → AllByRecursion (λ y. nat_eq x y ≡ false) (place_variables ps) → texts_for x args (entries_of ps) ≡ []
-no_places x args [] h = refl
-no_places x args (p ∷ ps) h = rw (none_by (nat_eq x p.variable) x p.variable (slice_index_or args p.arg []) refl h.0, no_places x args ps h.1) refl
-
-turned : (x y : ℕ) → nat_eq x y ≡ nat_eq y x
-turned x y = grind (arith, nat_tests)
-
-places_by : (b : Bool) (x : ℕ) (args : List Text) (g : Option Text) (p : Place) (ps : List Place) → nat_eq p.variable x ≡ b →
-    AllByRecursion (λ y. nat_eq p.variable y ≡ false) (place_variables ps) → p.arg < length args →
-    ((if b then Some p.arg else arg_at ps x) ≡ None → g ≡ None) → ((k : ℕ) → (if b then Some p.arg else arg_at ps x) ≡ Some k → g ≡ slice_get args k) →
-    ((arg_at ps x ≡ None → g ≡ None) → ((k : ℕ) → arg_at ps x ≡ Some k → g ≡ slice_get args k) → texts_for x args (entries_of ps) ≡ as_list g) →
-    (if b then slice_index_or args p.arg [] ∷ [] else []) ++ texts_for x args (entries_of ps) ≡ as_list g
-places_by true x args g p ps e apart within none some more =
-    let same : p.variable ≡ x = grind (arith, nat_tests) in
-    let rest : texts_for x args (entries_of ps) ≡ [] = no_places x args ps (rw (← same) apart) in
-    rw (some p.arg refl, slice_get-get_or args p.arg [] within, rest) refl
-places_by false x args g p ps e apart within none some more = more none some
-
-pub place_texts : (x : ℕ) (args : List Text) (g : Option Text) (ps : List Place) → IsDistinct nat_eq (place_variables ps) → ArgsBelow (length args) ps →
-    (arg_at ps x ≡ None → g ≡ None) → ((k : ℕ) → arg_at ps x ≡ Some k → g ≡ slice_get args k) → texts_for x args (entries_of ps) ≡ as_list g
-place_texts x args g [] distinct within none some = rw (none refl) refl
-place_texts x args g (p ∷ ps) distinct within none some =
-    rw (turned x p.variable) (places_by (nat_eq p.variable x) x args g p ps refl (IsDistinct-head nat_eq p.variable (place_variables ps) distinct) within.0 none some
-    (λ n s. place_texts x args g ps (IsDistinct-tail nat_eq p.variable (place_variables ps) distinct) within.1 n s))
-
 -- entries from a place on
 from_place : {A : Type 0} (xs : List A) (i : ℕ) (d : A) → i < length xs → drop i xs ≡ get_or xs i d ∷ drop (i + 1) xs
 from_place xs i d l = let h = drop-cons xs i d l in rw (add-one, h) refl
 
 pub all_here : {A : Type 0} (P : A → Type 0) (xs : List A) (i : ℕ) (d : A) → i < length xs → AllByRecursion P (drop i xs) → P (get_or xs i d) × AllByRecursion P (drop (i + 1) xs)
 all_here P xs i d l h = rw (from_place xs i d l) at h
-
-head_seen : (b : Bool) (x : ℕ) (t : Text) (args : List Text) (n : Need) (us : List Text) → nat_eq x n.variable ≡ b → n.variable ≡ x → t ≡ slice_index_or args n.arg [] →
-    list_any (bytes_eq t) ((if b then slice_index_or args n.arg [] ∷ [] else []) ++ us) ≡ true
-head_seen true x t args n us e same is = let seen : bytes_eq t (slice_index_or args n.arg []) ≡ true = (bytes_eq-Decides t (slice_index_or args n.arg [])).1 is in rw seen refl
-head_seen false x t args n us e same is = absurd (let no : ⊥ = grind (arith, nat_tests) in no)
-
-other_text : (b : Bool) (t u : Text) (us : List Text) → bytes_eq t u ≡ b → (t ≡ u → ⊥) → (b || list_any (bytes_eq t) us) ≡ list_any (bytes_eq t) us
-other_text true t u us e other = absurd (other ((bytes_eq-Decides t u).0 e))
-other_text false t u us e other = refl
-
-head_other : (b : Bool) (x : ℕ) (t : Text) (args : List Text) (n : Need) (us : List Text) → nat_eq x n.variable ≡ b → (n.variable ≡ x → t ≡ slice_index_or args n.arg [] → ⊥) →
-    list_any (bytes_eq t) ((if b then slice_index_or args n.arg [] ∷ [] else []) ++ us) ≡ list_any (bytes_eq t) us
-head_other true x t args n us e other =
-    let same : n.variable ≡ x = grind (arith, nat_tests) in
-    other_text (bytes_eq t (slice_index_or args n.arg [])) t (slice_index_or args n.arg []) us refl (λ is. other same is)
-head_other false x t args n us e other = refl
-
--- a search for a text among the entries of x, at place i
-pub text_here : (x : ℕ) (t : Text) (args : List Text) (ns : List Need) (i : ℕ) (d : Need) → i < length ns →
-    list_any (bytes_eq t) (texts_for x args ns) ≡ list_any (bytes_eq t) (texts_for x args (drop i ns)) →
-    (get_or ns i d).variable ≡ x → t ≡ slice_index_or args (get_or ns i d).arg [] → true ≡ list_any (bytes_eq t) (texts_for x args ns)
-text_here x t args ns i d l h same is =
-    sym (h ∙ ap (λ ms. list_any (bytes_eq t) (texts_for x args ms)) (from_place ns i d l)
-    ∙ head_seen (nat_eq x (get_or ns i d).variable) x t args (get_or ns i d) (texts_for x args (drop (i + 1) ns)) refl same is)
-
-pub text_later : (x : ℕ) (t : Text) (args : List Text) (ns : List Need) (i : ℕ) (d : Need) → i < length ns →
-    list_any (bytes_eq t) (texts_for x args ns) ≡ list_any (bytes_eq t) (texts_for x args (drop i ns)) →
-    ((get_or ns i d).variable ≡ x → t ≡ slice_index_or args (get_or ns i d).arg [] → ⊥) →
-    list_any (bytes_eq t) (texts_for x args ns) ≡ list_any (bytes_eq t) (texts_for x args (drop (i + 1) ns))
-text_later x t args ns i d l h other =
-    h ∙ ap (λ ms. list_any (bytes_eq t) (texts_for x args ms)) (from_place ns i d l)
-    ∙ head_other (nat_eq x (get_or ns i d).variable) x t args (get_or ns i d) (texts_for x args (drop (i + 1) ns)) refl other
 
 -- entries from a later variable's on are of later variables
 pub all_later : (x : ℕ) (ns : List Need) (i : ℕ) (d : Need) → i < length ns → x < (get_or ns i d).variable → AreByVariable (drop i ns) → AllByRecursion (λ m. x < m.variable) (drop i ns)
@@ -165,21 +97,35 @@ all_later x ns i d l less h =
 pub arg_read : (args : List Text) (k : ℕ) (a : Text) → k < length args → a ≡ get_or args k a → a ≡ slice_index_or args k []
 arg_read args k a l is = is ∙ get_or_default args k a [] l
 
--- the entries of places, at place i
-pub places_more : (x : ℕ) (args ts us goal : List Text) (ps : List Place) (i : ℕ) (d : Place) → i < length ps →
-    with_texts ts (texts_for x args (entries_of (drop i ps))) ≡ goal → us ≡ with_texts ts (entry_texts x args (record { variable = (get_or ps i d).variable; arg = (get_or ps i d).arg })) →
-    with_texts us (texts_for x args (entries_of (drop (i + 1) ps))) ≡ goal
-places_more x args ts us goal ps i d l h is =
-    let p = get_or ps i d in
-    let rest = texts_for x args (entries_of (drop (i + 1) ps)) in
-    ap (λ vs. with_texts vs rest) is
-    ∙ sym (with_more ts (entry_texts x args (record { variable = p.variable; arg = p.arg })) rest)
-    ∙ ap (λ qs. with_texts ts (texts_for x args (entries_of qs))) (sym (from_place ps i d l))
-    ∙ h
+-- the text of one entry of x, and none of another's
+own_text : (b : Bool) (x : ℕ) (n : Need) (t : Text) → nat_eq x n.variable ≡ b → n.variable ≡ x →
+    (if b then t ∷ [] else []) ≡ t ∷ []
+own_text true x n t e same = refl
+own_text false x n t e same = absurd (let never : ⊥ = grind (arith, nat_tests) in never)
 
-pub places_within : (n : ℕ) (ps : List Place) (i : ℕ) (d : Place) → i < length ps → ArgsBelow n (drop i ps) → ((get_or ps i d).arg < n) × ArgsBelow n (drop (i + 1) ps)
-places_within n ps i d l h = rw (from_place ps i d l) at h
+no_text : (b : Bool) (x : ℕ) (n : Need) (t : Text) → nat_eq x n.variable ≡ b →
+    (n.variable ≡ x → ⊥) → (if b then t ∷ [] else []) ≡ []
+no_text true x n t e other =
+    let same : n.variable ≡ x = grind (arith, nat_tests) in absurd (other same)
+no_text false x n t e other = refl
 
-pub places_below : (v : ℕ) (ps : List Place) (i : ℕ) (d : Place) → i < length ps → AllByRecursion (λ x. x < v) (place_variables (drop i ps)) →
-    ((get_or ps i d).variable < v) × AllByRecursion (λ x. x < v) (place_variables (drop (i + 1) ps))
-places_below v ps i d l h = rw (from_place ps i d l) at h
+-- the entry at a place gives its text where it is one of the variable
+pub text_first : (x : ℕ) (args : List Text) (ns : List Need) (i : ℕ) (d : Need) → i < length ns →
+    (get_or ns i d).variable ≡ x →
+    texts_for x args (drop i ns) ≡
+    slice_index_or args (get_or ns i d).arg [] ∷ texts_for x args (drop (i + 1) ns)
+text_first x args ns i d l same =
+    ap (λ ms. texts_for x args ms) (from_place ns i d l)
+    ∙ ap (λ ts. ts ++ texts_for x args (drop (i + 1) ns))
+    (own_text (nat_eq x (get_or ns i d).variable) x (get_or ns i d)
+    (slice_index_or args (get_or ns i d).arg []) refl same)
+
+-- and else none
+pub text_none : (x : ℕ) (args : List Text) (ns : List Need) (i : ℕ) (d : Need) → i < length ns →
+    ((get_or ns i d).variable ≡ x → ⊥) →
+    texts_for x args (drop i ns) ≡ texts_for x args (drop (i + 1) ns)
+text_none x args ns i d l other =
+    ap (λ ms. texts_for x args ms) (from_place ns i d l)
+    ∙ ap (λ ts. ts ++ texts_for x args (drop (i + 1) ns))
+    (no_text (nat_eq x (get_or ns i d).variable) x (get_or ns i d)
+    (slice_index_or args (get_or ns i d).arg []) refl other)

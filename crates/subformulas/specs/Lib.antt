@@ -2,8 +2,15 @@ pub mod Numbering
 pub mod Table
 pub mod Unfolded
 pub mod Assigned
+pub mod Texts
+pub mod Facts
+pub mod Pinned
+pub mod TimeBits
+pub mod Free
 pub mod Memory
 pub mod Needs
 pub mod Laws
 pub mod NeedList
+pub mod Matched
+pub mod Adding
 pub mod OperationRows
