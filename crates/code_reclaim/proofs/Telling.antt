@@ -1,7 +1,7 @@
 -- What the trees of a list tell apart.
 use Rattle.std.proofs.Common.{◌≡◌, ◌≢◌, ℕ, zero, suc, ◌+◌, ◌-◌, ◌^◌, ◌<◌, ◌≤◌, ◌↔◌, List, [], ◌∷◌, length, map, take, refl, ap, sym, ◌∙◌, arith, subst, inl, inr, ⊎_elim}
 use Rattle.std.specs.Prelude.{Bool, true, false, not, ◌||◌, ◌&&◌, slice_index_or, IsTrue}
-use Rattle.std.specs.List.{list_any}
+use Rattle.std.specs.List.{AllByRecursion, Any, list_any}
 use Rattle.std.proofs.lemmas.List.{take_all}
 use Rattle.std.proofs.lemmas.List.Folds.{Any-from_list_any, list_any-from_Any, list_any_more}
 use Rattle.node_tree.specs.Tree.{Tree, tree_eq, value, IsOrdered, IsReduced}
@@ -22,7 +22,8 @@ use Rattle.code_reclaim.proofs.Trees.{block_ordered, block_reduced}
 abbrev pub HasBits : (first bits code : ℕ) → Tree → Type 0
 HasBits first bits code t = (others : List Bool) × (value t (with_code others first bits code) ≢ value t (with_code others first bits (2 ^ bits - 1)))
 
-differs_bits : (first bits code : ℕ) (t : Tree) → IsOrdered t → IsReduced t → differs first bits code t ≡ true → HasBits first bits code t
+-- a tree that differs between the code and all ones has bits that tell its two settings apart
+pub differs_bits : (first bits code : ℕ) (t : Tree) → IsOrdered t → IsReduced t → differs first bits code t ≡ true → HasBits first bits code t
 differs_bits first bits code t o r e =
     ⊎_elim
     (λ s. absurd (by_test (same_tells (set_block first bits code t) (set_block first bits (2 ^ bits - 1) t)) s e))
@@ -34,7 +35,8 @@ differs_bits first bits code t o r e =
     by_test (inl p) q e = let f : false ≡ true = sym (ap not p.0) ∙ e in cc
     by_test (inr p) q e = p.1 q
 
-bits_differ : (first bits code : ℕ) (t : Tree) → IsOrdered t → HasBits first bits code t → differs first bits code t ≡ true
+-- and back
+pub bits_differ : (first bits code : ℕ) (t : Tree) → IsOrdered t → HasBits first bits code t → differs first bits code t ≡ true
 bits_differ first bits code t o h = by_test (same_tells (set_block first bits code t) (set_block first bits (2 ^ bits - 1) t))
   where
     by_test : Tells (tree_eq (set_block first bits code t) (set_block first bits (2 ^ bits - 1) t)) (set_block first bits code t) (set_block first bits (2 ^ bits - 1) t) → differs first bits code t ≡ true
@@ -70,6 +72,33 @@ told_values t s hs v first bits code found e = (
     a.3,
     bits_differ first bits code a.1 (trees_sound t s hs v IsOrdered (λ h w. s.ordered h w) a.0 a.1 a.2 a.3) a.4,
   ),
+)
+
+-- what holds of each tree of a list holds of one that some place has
+each_of_some : (P Q R : Tree → Type 0) → ((t : Tree) → P t → Q t → R t) → (trees : List Tree) →
+    AllByRecursion P trees → Any Q trees → Any R trees
+each_of_some P Q R f [] p (k, t, l, e, q) = absurd (omega (arith, l))
+each_of_some P Q R f (u ∷ trees) p (zero, t, l, e, q) =
+    (zero, t, l, e, f t (subst P e p.0) q)
+each_of_some P Q R f (u ∷ trees) p (suc k, t, l, e, q) =
+    let (j, w, m, g, r) = each_of_some P Q R f trees p.1 (k, t, omega (arith, l), e, q) in
+    (suc j, w, omega (arith, m), g, r)
+
+-- whether trees tell a code apart is whether some tree has bits that do
+pub told_apart_tells : (trees : List Tree) (first bits code : ℕ) → AllByRecursion IsOrdered trees →
+    AllByRecursion IsReduced trees →
+    (told_apart trees first bits code ≡ true) ↔ IsToldApart trees first bits code
+told_apart_tells trees first bits code o r = (
+  λ e.
+      each_of_some IsReduced (λ t. IsOrdered t × (differs first bits code t ≡ true))
+      (HasBits first bits code) (λ t p q. differs_bits first bits code t q.0 p q.1) trees r
+      (each_of_some IsOrdered (λ t. differs first bits code t ≡ true)
+      (λ t. IsOrdered t × (differs first bits code t ≡ true)) (λ t p q. (p, q)) trees o
+      (Any-from_list_any (differs first bits code) trees e)),
+  λ a.
+      list_any-from_Any (differs first bits code) trees
+      (each_of_some IsOrdered (HasBits first bits code) (λ t. differs first bits code t ≡ true)
+      (λ t p q. bits_differ first bits code t p q) trees o a),
 )
 
 -- one more handle's tree strikes what it tells apart

@@ -1,3 +1,6 @@
-mod Sizes
-mod Making
-mod Blocks
+pub mod Blocks
+pub mod Fitting
+pub mod Making
+pub mod Sizes
+pub mod Lines
+pub mod PastAges

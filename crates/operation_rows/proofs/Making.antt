@@ -1,5 +1,5 @@
--- What one operation, or two, leave as rows.
-use Rattle.std.proofs.Common.{◌≡◌, ◌⊎◌, ℕ, zero, suc, ◌<◌, ◌≤◌, ◌↔◌, List, [], ◌∷◌, ◌++◌, length, map, refl, ap, sym, ◌∙◌, arith, ⊎_elim, inl, inr, subst}
+-- What operations leave as rows.
+use Rattle.std.proofs.Common.{◌≡◌, ◌⊎◌, ℕ, zero, suc, ◌+◌, ◌<◌, ◌≤◌, ◌↔◌, List, [], ◌∷◌, ◌++◌, length, map, refl, ap, sym, ◌∙◌, arith, ⊎_elim, inl, inr, subst, Some}
 use Rattle.std.specs.Prelude.{true, false, not, Result, Ok, Err, IsErr, IfOk, slice_index_or}
 use Rattle.std.specs.List.{Contains}
 use Rattle.std.proofs.lemmas.Bool.{cases_lt}
@@ -17,11 +17,85 @@ use Rattle.bdd_ops.proofs.Growing.{grows_none}
 use Rattle.bdd_ops.proofs.Stages.{made_ok}
 use Rattle.bdd_ops.proofs.Tries.{same_map, fits_all, stay_same, both_valid, first_ok}
 use Rattle.operation_rows.specs.declared.rows.RowFull.{RowFull}
-use Rattle.operation_rows.specs.Fitting.{row_size, FitTo, MakesRows}
+use Rattle.operation_rows.specs.declared.updated.Updated.{Updated}
+use Rattle.operation_rows.specs.Rows.{Row, row, row_need, first_full, plain, MakesUpdate}
+use Rattle.operation_rows.specs.Kinds.{one_row}
+use Rattle.operation_rows.specs.Lines.{Made}
+use Rattle.operation_rows.proofs.Fitting.{rows_then, rows_stop, rows_stopped}
 use Rattle.operation_rows.proofs.Sizes.{Has, has_left, has_right, has_cases, has_handle, size_le, size_same}
 
 never : false ≡ true → ⊥
 never e = cc
+
+pub map_both : (f : ℕ → Tree) (xs ys : List ℕ) → map f (xs ++ ys) ≡ map f xs ++ map f ys
+map_both f [] ys = refl
+map_both f (x ∷ xs) ys = ap (λ zs. f x ∷ zs) (map_both f xs ys)
+
+pub stay_map : (old new : Table) (hs : List ℕ) → AllStay old new hs → map (tree_of new) hs ≡ map (tree_of old) hs
+stay_map old new hs s = same_map (tree_of new) (tree_of old) hs (λ j l. (s j l).1)
+
+-- a result fits where its operation didn't refuse
+fits_ok : (room need h : ℕ) (r : Result ℕ NodesFull) → r ≡ Ok h → (IsErr r ↔ (room < need)) → need ≤ room
+fits_ok room need h r e f = ⊎_elim (λ (l : room < need). absurd (never (subst IsErr e (f.1 l)))) (λ (l : need ≤ room). l) (cases_lt room need)
+
+full_err : (room need : ℕ) (x : NodesFull) (r : Result ℕ NodesFull) → r ≡ Err x → (IsErr r ↔ (room < need)) → room < need
+full_err room need x r e f = f.0 (subst IsErr (sym e) refl)
+
+-- the same trees, whatever their order
+pub record SameTrees (xs ys : List Tree) : Type 0 where
+  pub there : (t : Tree) → Has xs t → Has ys t
+  pub back : (t : Tree) → Has ys t → Has xs t
+
+-- before the first row nothing is made
+pub none_made : (roots : List ℕ) (t : Table) → AllValid t roots → Made [] roots t t
+none_made roots t v = record { room = refl; roots_stay = stay_same t roots v; fit = refl }
+
+-- one more row: an operation whose operands and roots have the trees that are kept beside the row. Its letters are the handles
+-- of rows before that stand among the operands or among the roots that it was given
+module _ (rows : List Row) (beside : List Tree) (tree : Tree) (operands given roots : List ℕ) (old mid new : Table) (before : Made rows roots old mid)
+    (same : SameTrees (map (tree_of mid) (operands ++ given)) (map (tree_of mid) roots ++ beside)) where
+  next_need : need_with tree (operands ++ given) mid ≡ row_need (map (tree_of old) roots) (row beside tree)
+  next_need =
+      size_same (tree ∷ map (tree_of mid) (operands ++ given)) (map (tree_of old) roots ++ (beside ++ tree ∷ [])) there back
+    where
+      kept : List Tree
+      kept = map (tree_of old) roots
+
+      old_kept : map (tree_of mid) roots ≡ map (tree_of old) roots
+      old_kept = stay_map old mid roots before.roots_stay
+
+      side : (t : Tree) → Has (map (tree_of mid) roots ++ beside) t → Has (map (tree_of old) roots ++ (beside ++ tree ∷ [])) t
+      side t h =
+          ⊎_elim (λ k. has_left (map (tree_of old) roots) _ t (subst (λ xs. Has xs t) old_kept k)) (λ k. has_right (map (tree_of old) roots) _ t (has_left beside _ t k))
+          (has_cases (map (tree_of mid) roots) beside t h)
+
+      there : (t : Tree) → Has (tree ∷ map (tree_of mid) (operands ++ given)) t → Has (map (tree_of old) roots ++ (beside ++ tree ∷ [])) t
+      there t (inl e) = has_right (map (tree_of old) roots) _ t (has_right beside _ t (inl e))
+      there t (inr h) = side t (same.there t h)
+
+      back : (t : Tree) → Has (map (tree_of old) roots ++ (beside ++ tree ∷ [])) t → Has (tree ∷ map (tree_of mid) (operands ++ given)) t
+      back t h =
+          ⊎_elim (λ k. inr (same.back t (has_left (map (tree_of mid) roots) _ t (subst (λ xs. Has xs t) (sym old_kept) k))))
+          (λ k. ⊎_elim (λ b. inr (same.back t (has_right (map (tree_of mid) roots) _ t b))) (λ b. ⊎_elim (λ e. inl e) (λ n. absurd n) b) (has_cases beside (tree ∷ []) t k))
+          (has_cases (map (tree_of old) roots) (beside ++ tree ∷ []) t h)
+
+  next_stays : AllStay mid new roots → AllStay old new roots
+  next_stays s j l = ((s j l).0, (s j l).1 ∙ (before.roots_stay j l).1)
+
+  pub more_made : (h : ℕ) (r : Result ℕ NodesFull) → r ≡ Ok h → Operates tree operands given mid new r → AllStay mid new roots → Made (rows ++ row beside tree ∷ []) roots old new
+  more_made h r e o s = record {
+    room = o.room ∙ before.room;
+    roots_stay = next_stays s;
+    fit =
+        let n = fits_ok mid.room (need_with tree (operands ++ given) mid) h r e o.full in let m = next_need in let room = before.room in
+        rows_then old.room (map (tree_of old) roots) rows (row beside tree) before.fit (omega (arith, n, m, room));
+  }
+
+  pub more_full : (x : NodesFull) (r : Result ℕ NodesFull) → r ≡ Err x → Operates tree operands given mid new r → (more : List Row) →
+      first_full old.room (map (tree_of old) roots) (rows ++ row beside tree ∷ more) ≡ Some (length rows + 1)
+  more_full x r e o more =
+      let n = full_err mid.room (need_with tree (operands ++ given) mid) x r e o.full in let m = next_need in let room = before.room in
+      rows_stop old.room (map (tree_of old) roots) rows (row beside tree) more before.fit (omega (arith, n, m, room))
 
 -- each operand is a root
 abbrev pub AreRoots : List ℕ → List ℕ → Type 0
@@ -33,179 +107,116 @@ operand_trees f roots [] r t h = absurd h
 operand_trees f roots (x ∷ hs) r t (inl e) = subst (Has (map f roots)) e (has_handle f roots x r.0)
 operand_trees f roots (x ∷ hs) r t (inr h) = operand_trees f roots hs r.1 t h
 
-map_both : (f : ℕ → Tree) (xs ys : List ℕ) → map f (xs ++ ys) ≡ map f xs ++ map f ys
-map_both f [] ys = refl
-map_both f (x ∷ xs) ys = ap (λ zs. f x ∷ zs) (map_both f xs ys)
+-- operands that are roots
+roots_same : (operands roots : List ℕ) (t : Table) → AreRoots roots operands → SameTrees (map (tree_of t) (operands ++ roots)) (map (tree_of t) roots ++ [])
+roots_same operands roots t among = record {
+  there = λ x h. has_left (map (tree_of t) roots) [] x
+      (⊎_elim (λ k. operand_trees (tree_of t) roots operands among x k) (λ k. k) (has_cases (map (tree_of t) operands) (map (tree_of t) roots) x (subst (λ xs. Has xs x) (map_both (tree_of t) operands roots) h)));
+  back = λ x h. ⊎_elim (λ k. subst (λ xs. Has xs x) (sym (map_both (tree_of t) operands roots)) (has_right (map (tree_of t) operands) _ x k)) (λ n. absurd n) (has_cases (map (tree_of t) roots) [] x h);
+}
 
-stay_map : (old new : Table) (hs : List ℕ) → AllStay old new hs → map (tree_of new) hs ≡ map (tree_of old) hs
-stay_map old new hs s = same_map (tree_of new) (tree_of old) hs (λ j l. (s j l).1)
+module _ (tree : Tree) (operands roots : List ℕ) (old new : Table) (valid : AllValid old roots) (among : AreRoots roots operands) where
+  pub one_made : (h : ℕ) (r : Result ℕ NodesFull) → r ≡ Ok h → Operates tree operands roots old new r → Made (row [] tree ∷ []) roots old new
+  one_made h r e o = more_made [] [] tree operands roots roots old old new (none_made roots old valid) (roots_same operands roots old among) h r e o o.roots_stay
 
--- a result fits where its operation didn't refuse
-pub fits_ok : (room need h : ℕ) (r : Result ℕ NodesFull) → r ≡ Ok h → (IsErr r ↔ (room < need)) → need ≤ room
-fits_ok room need h r e f = ⊎_elim (λ (l : room < need). absurd (never (subst IsErr e (f.1 l)))) (λ (l : need ≤ room). l) (cases_lt room need)
-
-pub full_err : (room need : ℕ) (x : NodesFull) (r : Result ℕ NodesFull) → r ≡ Err x → (IsErr r ↔ (room < need)) → room < need
-full_err room need x r e f = f.0 (subst IsErr (sym e) refl)
-
--- what an operation needs is what its row does, where its operands are among the roots
-module _ (tree : Tree) (operands roots : List ℕ) (t : Table) (among : AreRoots roots operands) where
-  one_need : need_with tree (operands ++ roots) t ≡ row_size (map (tree_of t) roots) (tree ∷ []) 1
-  one_need = size_same (tree ∷ map (tree_of t) (operands ++ roots)) (map (tree_of t) roots ++ tree ∷ []) there back
-    where
-      there : (x : Tree) → Has (tree ∷ map (tree_of t) (operands ++ roots)) x → Has (map (tree_of t) roots ++ tree ∷ []) x
-      there x (inl e) = has_right (map (tree_of t) roots) (tree ∷ []) x (inl e)
-      there x (inr h) =
-          has_left (map (tree_of t) roots) (tree ∷ []) x
-          (⊎_elim (λ k. operand_trees (tree_of t) roots operands among x k) (λ k. k) (has_cases (map (tree_of t) operands) (map (tree_of t) roots) x (subst (λ xs. Has xs x)
-          (map_both (tree_of t) operands roots) h)))
-
-      in_roots : (x : Tree) → Has (map (tree_of t) roots) x → Has (tree ∷ map (tree_of t) (operands ++ roots)) x
-      in_roots x h = inr (subst (λ xs. Has xs x) (sym (map_both (tree_of t) operands roots)) (has_right (map (tree_of t) operands) (map (tree_of t) roots) x h))
-
-      back : (x : Tree) → Has (map (tree_of t) roots ++ tree ∷ []) x → Has (tree ∷ map (tree_of t) (operands ++ roots)) x
-      back x h = ⊎_elim (in_roots x) (λ k. ⊎_elim (λ e. inl e) (λ n. absurd n) k) (has_cases (map (tree_of t) roots) (tree ∷ []) x h)
-
-module _ (tree : Tree) (operands roots : List ℕ) (old new : Table) (among : AreRoots roots operands) where
   -- one operation on roots is one row
-  pub one_ok : (h : ℕ) (r : Result ℕ NodesFull) → r ≡ Ok h → Operates tree operands roots old new r → MakesRows (tree ∷ []) tree roots old new (Ok h)
-  one_ok h r e o = record {
-    room = o.room;
-    shared = o.shared;
-    roots_stay = o.roots_stay;
-    valid = subst (λ x. IfOk x (λ k. IsValid new k)) e o.valid;
-    is = subst (λ x. IfOk x (λ k. tree_of new k ≡ tree)) e o.is;
-    fit = λ q a b.
-        let n = fits_ok old.room (need_with tree (operands ++ roots) old) h r e o.full in let same = one_need tree operands roots old among in let one : q ≡ 1 = omega (arith, a, b) in
-        subst (λ (j : ℕ). row_size (map (tree_of old) roots) (tree ∷ []) j ≤ old.room) (sym one) (omega (arith, n, same));
-    refused = tt;
-  }
+  pub one_ok : (h : ℕ) (r : Result ℕ NodesFull) → r ≡ Ok h → Operates tree operands roots old new r → MakesUpdate (one_row tree) roots old new (Ok (record { now = h; next = h }))
+  one_ok h r e o =
+      let valid : IsValid new h = subst (λ x. IfOk x (λ k. IsValid new k)) e o.valid in
+      let is : tree_of new h ≡ tree = subst (λ x. IfOk x (λ k. tree_of new k ≡ tree)) e o.is in record {
+        room = o.room;
+        shared = o.shared;
+        roots_stay = o.roots_stay;
+        now = (valid, is);
+        next = (valid, is);
+        full = (one_made h r e o).fit;
+      }
 
-  pub one_full : (x : NodesFull) (f : RowFull) (r : Result ℕ NodesFull) → r ≡ Err x → f.row ≡ 1 → Operates tree operands roots old new r → MakesRows (tree ∷ []) tree roots old new (Err f)
-  one_full x f r e row o = record {
+  pub one_full : (x : NodesFull) (f : RowFull) (r : Result ℕ NodesFull) → r ≡ Err x → f.row ≡ 1 → Operates tree operands roots old new r → MakesUpdate (one_row tree) roots old new (Err f)
+  one_full x f r e at o = record {
     room = o.room;
     shared = o.shared;
     roots_stay = o.roots_stay;
-    valid = tt;
-    is = tt;
-    fit = tt;
-    refused = (
-      omega (arith, row),
-      omega (arith, row),
-      λ q a b. absurd (omega (arith, a, b, row)),
-      (
-          let n = full_err old.room (need_with tree (operands ++ roots) old) x r e o.full in let same = one_need tree operands roots old among in
-          subst (λ (j : ℕ). old.room < row_size (map (tree_of old) roots) (tree ∷ []) j) (sym row) (omega (arith, n, same))
-          ),
-    );
+    now = tt;
+    next = tt;
+    full = more_full [] [] tree operands roots roots old old new (none_made roots old valid) (roots_same operands roots old among) x r e o [] ∙ ap (λ (n : ℕ). Some n) (omega (arith, at));
   }
 
 -- the leaf zero beside roots
-pub leaf_ok : (h : ℕ) (roots : List ℕ) (t : Table) → IsShared t → AllValid t roots → IsValid t h → tree_of t h ≡ Zero → MakesRows (Zero ∷ []) Zero roots t t (Ok h)
-leaf_ok h roots t s v vh e = record {
-  room = refl;
-  shared = s;
-  roots_stay = stay_same t roots v;
-  valid = vh;
-  is = e;
-  fit = λ q a b.
-      let n : size (tree_of t h ∷ map (tree_of t) roots) ≤ t.room = fits_all t h roots s vh v in
-      let one : q ≡ 1 = omega (arith, a, b) in
-      let less : size (map (tree_of t) roots ++ Zero ∷ []) ≤ size (tree_of t h ∷ map (tree_of t) roots) =
-      size_le _ (tree_of t h ∷ map (tree_of t) roots) (λ x k. ⊎_elim (λ i. inr i) (λ j. ⊎_elim (λ z. inl (e ∙ z)) (λ n. absurd n) j) (has_cases (map (tree_of t) roots) (Zero ∷ []) x k)) in
-      subst (λ (j : ℕ). row_size (map (tree_of t) roots) (Zero ∷ []) j ≤ t.room) (sym one) (omega (arith, n, less));
-  refused = tt;
-}
+pub leaf_ok : (h : ℕ) (roots : List ℕ) (t : Table) → IsShared t → AllValid t roots → IsValid t h → tree_of t h ≡ Zero → MakesUpdate (one_row Zero) roots t t (Ok (record { now = h; next = h }))
+leaf_ok h roots t s v vh e =
+    let n : size (tree_of t h ∷ map (tree_of t) roots) ≤ t.room = fits_all t h roots s vh v in
+    let less : size (map (tree_of t) roots ++ Zero ∷ []) ≤ size (tree_of t h ∷ map (tree_of t) roots) =
+    size_le _ (tree_of t h ∷ map (tree_of t) roots) (λ x k. ⊎_elim (λ i. inr i) (λ j. ⊎_elim (λ z. inl (e ∙ z)) (λ n. absurd n) j) (has_cases (map (tree_of t) roots) (Zero ∷ []) x k)) in record {
+      room = refl;
+      shared = s;
+      roots_stay = stay_same t roots v;
+      now = (vh, e);
+      next = (vh, e);
+      full = rows_then t.room (map (tree_of t) roots) [] (row [] Zero) refl (omega (arith, n, less));
+    }
 
 -- a second row over the first one: its operands are the first row and a root, and each of their trees is known
-module _ (first tree : Tree) (u v x : ℕ) (roots : List ℕ) (old mid new : Table) (before : MakesRows (first ∷ []) first roots old mid (Ok x))
-    (left : (u ≡ x) ⊎ Contains roots u) (right : (v ≡ x) ⊎ Contains roots v) where
-  two_need : (u ≡ x) ⊎ (v ≡ x) → need_with tree ((u ∷ (v ∷ [])) ++ roots) mid ≡ row_size (map (tree_of old) roots) (first ∷ (tree ∷ [])) 2
-  two_need used =
-      size_same (tree ∷ (tree_of mid u ∷ (tree_of mid v ∷ map (tree_of mid) roots))) (map (tree_of old) roots ++ (first ∷ (tree ∷ []))) there back
-    where
-      in_row : (t : Tree) → Has (first ∷ (tree ∷ [])) t → Has (map (tree_of old) roots ++ (first ∷ (tree ∷ []))) t
-      in_row = has_right (map (tree_of old) roots) (first ∷ (tree ∷ []))
+module _ (first tree : Tree) (u v : ℕ) (x : Updated) (roots : List ℕ) (old mid new : Table) (before : MakesUpdate (one_row first) roots old mid (Ok x))
+    (left : (u ≡ x.now) ⊎ Contains roots u) (right : (v ≡ x.now) ⊎ Contains roots v) (used : (u ≡ x.now) ⊎ (v ≡ x.now)) where
+  first_made : Made (row [] first ∷ []) roots old mid
+  first_made = record { room = before.room; roots_stay = before.roots_stay; fit = before.full }
 
-      in_kept : (t : Tree) → Has (map (tree_of mid) roots) t → Has (map (tree_of old) roots ++ (first ∷ (tree ∷ []))) t
-      in_kept t h = has_left (map (tree_of old) roots) (first ∷ (tree ∷ [])) t (subst (λ xs. Has xs t) (stay_map old mid roots before.roots_stay) h)
+  operand : (h : ℕ) (t : Tree) → (h ≡ x.now) ⊎ Contains roots h → tree_of mid h ≡ t → Has (map (tree_of mid) roots ++ first ∷ []) t
+  operand h t (inl e) k = has_right (map (tree_of mid) roots) _ t (inl (sym before.now.1 ∙ ap (tree_of mid) (sym e) ∙ k))
+  operand h t (inr c) k = has_left (map (tree_of mid) roots) _ t (subst (Has (map (tree_of mid) roots)) k (has_handle (tree_of mid) roots h c))
 
-      operand : (h : ℕ) (t : Tree) → (h ≡ x) ⊎ Contains roots h → tree_of mid h ≡ t → Has (map (tree_of old) roots ++ (first ∷ (tree ∷ []))) t
-      operand h t (inl e) k = in_row t (inl (sym before.is ∙ ap (tree_of mid) (sym e) ∙ k))
-      operand h t (inr c) k = in_kept t (subst (Has (map (tree_of mid) roots)) k (has_handle (tree_of mid) roots h c))
+  the_first : (t : Tree) → first ≡ t → (u ≡ x.now) ⊎ (v ≡ x.now) → Has (tree_of mid u ∷ (tree_of mid v ∷ map (tree_of mid) roots)) t
+  the_first t e (inl k) = inl (ap (tree_of mid) k ∙ before.now.1 ∙ e)
+  the_first t e (inr k) = inr (inl (ap (tree_of mid) k ∙ before.now.1 ∙ e))
 
-      there : (t : Tree) → Has (tree ∷ (tree_of mid u ∷ (tree_of mid v ∷ map (tree_of mid) roots))) t → Has (map (tree_of old) roots ++ (first ∷ (tree ∷ []))) t
-      there t (inl e) = in_row t (inr (inl e))
-      there t (inr (inl e)) = operand u t left e
-      there t (inr (inr (inl e))) = operand v t right e
-      there t (inr (inr (inr h))) = in_kept t h
+  two_there : (t : Tree) → Has (tree_of mid u ∷ (tree_of mid v ∷ map (tree_of mid) roots)) t → Has (map (tree_of mid) roots ++ first ∷ []) t
+  two_there t (inl e) = operand u t left e
+  two_there t (inr (inl e)) = operand v t right e
+  two_there t (inr (inr h)) = has_left (map (tree_of mid) roots) _ t h
 
-      the_first : (t : Tree) → first ≡ t → (u ≡ x) ⊎ (v ≡ x) → Has (tree ∷ (tree_of mid u ∷ (tree_of mid v ∷ map (tree_of mid) roots))) t
-      the_first t e (inl k) = inr (inl (ap (tree_of mid) k ∙ before.is ∙ e))
-      the_first t e (inr k) = inr (inr (inl (ap (tree_of mid) k ∙ before.is ∙ e)))
+  two_same : SameTrees (map (tree_of mid) ((u ∷ (v ∷ [])) ++ roots)) (map (tree_of mid) roots ++ first ∷ [])
+  two_same = record {
+    there = two_there;
+    back = λ t h. ⊎_elim (λ k. inr (inr k)) (λ k. ⊎_elim (λ e. the_first t e used) (λ n. absurd n) k) (has_cases (map (tree_of mid) roots) (first ∷ []) t h);
+  }
 
-      back : (t : Tree) → Has (map (tree_of old) roots ++ (first ∷ (tree ∷ []))) t → Has (tree ∷ (tree_of mid u ∷ (tree_of mid v ∷ map (tree_of mid) roots))) t
-      back t h =
-          ⊎_elim (λ k. inr (inr (inr (subst (λ xs. Has xs t) (sym (stay_map old mid roots before.roots_stay)) k))))
-          (λ k. ⊎_elim (λ e. the_first t e used) (λ j. ⊎_elim (λ e. inl e) (λ n. absurd n) j) k) (has_cases (map (tree_of old) roots) (first ∷ (tree ∷ [])) t h)
+  pub two_ok : (h : ℕ) (r : Result ℕ NodesFull) → r ≡ Ok h → Operates tree (u ∷ (v ∷ [])) roots mid new r →
+      MakesUpdate (plain (row [] first ∷ (row (first ∷ []) tree ∷ [])) tree) roots old new (Ok (record { now = h; next = h }))
+  two_ok h r e o =
+      let made = more_made (row [] first ∷ []) (first ∷ []) tree (u ∷ (v ∷ [])) roots roots old mid new first_made two_same h r e o o.roots_stay in
+      let valid : IsValid new h = subst (λ x. IfOk x (λ k. IsValid new k)) e o.valid in
+      let is : tree_of new h ≡ tree = subst (λ x. IfOk x (λ k. tree_of new k ≡ tree)) e o.is in record {
+        room = made.room;
+        shared = o.shared;
+        roots_stay = made.roots_stay;
+        now = (valid, is);
+        next = (valid, is);
+        full = made.fit;
+      }
 
-  two_fit : (n : ℕ) → n ≡ 2 → row_size (map (tree_of old) roots) (first ∷ (tree ∷ [])) n ≤ old.room → FitTo old.room (map (tree_of old) roots) (first ∷ (tree ∷ [])) n
-  two_fit n e f q a b =
-      ⊎_elim (λ (l : q < 2). let one : q ≡ 1 = omega (arith, a, l) in subst (λ (j : ℕ). row_size (map (tree_of old) roots) (first ∷ (tree ∷ [])) j ≤ old.room) (sym one)
-      (before.fit 1 (omega arith) (omega arith))) (λ (l : 2 ≤ q). let two : q ≡ n = omega (arith, b, l, e) in
-      subst (λ (j : ℕ). row_size (map (tree_of old) roots) (first ∷ (tree ∷ [])) j ≤ old.room) (sym two) f) (cases_lt q 2)
-
-  pub two_ok : (u ≡ x) ⊎ (v ≡ x) → (h : ℕ) (r : Result ℕ NodesFull) → r ≡ Ok h → Operates tree (u ∷ (v ∷ [])) roots mid new r → MakesRows (first ∷ (tree ∷ [])) tree roots old new (Ok h)
-  two_ok used h r e o = record {
+  pub two_full : (y : NodesFull) (f : RowFull) (r : Result ℕ NodesFull) → r ≡ Err y → f.row ≡ 2 → Operates tree (u ∷ (v ∷ [])) roots mid new r →
+      MakesUpdate (plain (row [] first ∷ (row (first ∷ []) tree ∷ [])) tree) roots old new (Err f)
+  two_full y f r e at o = record {
     room = o.room ∙ before.room;
     shared = o.shared;
     roots_stay = λ j l. ((o.roots_stay j l).0, (o.roots_stay j l).1 ∙ (before.roots_stay j l).1);
-    valid = subst (λ x. IfOk x (λ k. IsValid new k)) e o.valid;
-    is = subst (λ x. IfOk x (λ k. tree_of new k ≡ tree)) e o.is;
-    fit =
-        let n = fits_ok mid.room (need_with tree ((u ∷ (v ∷ [])) ++ roots) mid) h r e o.full in let same = two_need used in let room = before.room in two_fit 2 refl (omega (arith, n, same, room));
-    refused = tt;
+    now = tt;
+    next = tt;
+    full = more_full (row [] first ∷ []) (first ∷ []) tree (u ∷ (v ∷ [])) roots roots old mid new first_made two_same y r e o [] ∙ ap (λ (n : ℕ). Some n) (omega (arith, at));
   }
 
-  pub two_full : (u ≡ x) ⊎ (v ≡ x) → (y : NodesFull) (f : RowFull) (r : Result ℕ NodesFull) → r ≡ Err y → f.row ≡ 2 → Operates tree (u ∷ (v ∷ [])) roots mid new r →
-      MakesRows (first ∷ (tree ∷ [])) tree roots old new (Err f)
-  two_full used y f r e row o = record {
-    room = o.room ∙ before.room;
-    shared = o.shared;
-    roots_stay = λ j l. ((o.roots_stay j l).0, (o.roots_stay j l).1 ∙ (before.roots_stay j l).1);
-    valid = tt;
-    is = tt;
-    fit = tt;
-    refused = (
-      omega (arith, row),
-      omega (arith, row),
-      (λ q a b. let one : q ≡ 1 = omega (arith, a, b, row) in
-          subst (λ (j : ℕ). row_size (map (tree_of old) roots) (first ∷ (tree ∷ [])) j ≤ old.room) (sym one) (before.fit 1 (omega arith) (omega arith))),
-      (
-          let n = full_err mid.room (need_with tree ((u ∷ (v ∷ [])) ++ roots) mid) y r e o.full in let same = two_need used in let room = before.room in
-          subst (λ (j : ℕ). old.room < row_size (map (tree_of old) roots) (first ∷ (tree ∷ [])) j) (sym row) (omega (arith, n, same, room))
-          ),
-    );
-  }
-
-  -- a first row that is refused is that of both
-  pub first_full : (f : RowFull) → MakesRows (first ∷ []) first roots old mid (Err f) → MakesRows (first ∷ (tree ∷ [])) tree roots old mid (Err f)
-  first_full f m = record {
-    room = m.room;
-    shared = m.shared;
-    roots_stay = m.roots_stay;
-    valid = tt;
-    is = tt;
-    fit = tt;
-    refused = (
-        let a = m.refused.0 in let b : f.row ≤ 1 = m.refused.1 in let one : f.row ≡ 1 = omega (arith, a, b) in (
-          a,
-          omega (arith, b),
-          (λ q c d. absurd (omega (arith, c, d, one))),
-          subst (λ (j : ℕ). old.room < row_size (map (tree_of old) roots) (first ∷ (tree ∷ [])) j) (sym one) (
-              subst (λ (j : ℕ). old.room < row_size (map (tree_of old) roots) (first ∷ []) j) one m.refused.3),
-        )
-        );
-  }
+-- a first row that is refused is that of both
+pub first_stops : (first tree : Tree) (roots : List ℕ) (old mid : Table) (f : RowFull) → MakesUpdate (one_row first) roots old mid (Err f) →
+    MakesUpdate (plain (row [] first ∷ (row (first ∷ []) tree ∷ [])) tree) roots old mid (Err f)
+first_stops first tree roots old mid f m = record {
+  room = m.room;
+  shared = m.shared;
+  roots_stay = m.roots_stay;
+  now = tt;
+  next = tt;
+  full = rows_stopped old.room (map (tree_of old) roots) (row [] first ∷ []) (row (first ∷ []) tree ∷ []) f.row m.full;
+}
 
 -- a root keeps its tree
 pub root_stays : (old new : Table) (roots : List ℕ) (h : ℕ) → AllStay old new roots → Contains roots h → tree_of new h ≡ tree_of old h

@@ -1,1 +1,4 @@
-pub mod Fitting
+pub mod Rows
+pub mod Kinds
+pub mod Lines
+pub mod Past

@@ -3,9 +3,9 @@ use Rattle.operation_rows.proofs.Blocks.{block_ok, block_full}
 use Rattle.operation_rows.proofs.rows.quantifier_rows.Goals as goal
 
 pub returns-in-Ok-clause-made : goal.returns-in-Ok-clause-made
-returns-in-Ok-clause-made g c = block_ok c.args.all c.args.block.first c.args.block.bits c.args.h c.args.roots.now c.args.store.now.table c.requires.operand c.quantify_block.new.store.table
-    c.in-Ok.made c.quantify_block.result c.in-Ok.is c.quantify_block.ensures.made
+returns-in-Ok-clause-made g c = rw c.plain.ensures (block_ok c.args.all c.args.block.first c.args.block.bits c.args.h c.args.roots.now c.args.store.now.table c.requires.operand c.quantify_deepest.new.store.table
+    c.in-Ok.made c.quantify_deepest.result c.in-Ok.is c.quantify_deepest.ensures.made)
 
 pub returns-in-Err-clause-made : goal.returns-in-Err-clause-made
-returns-in-Err-clause-made g c = block_full c.args.all c.args.block.first c.args.block.bits c.args.h c.args.roots.now c.args.store.now.table c.requires.operand c.quantify_block.new.store.table
-    _ _ c.quantify_block.result c.in-Err.is refl c.quantify_block.ensures.made
+returns-in-Err-clause-made g c = block_full c.args.all c.args.block.first c.args.block.bits c.args.h c.args.roots.now c.args.store.now.table c.requires.operand c.quantify_deepest.new.store.table
+    _ _ c.quantify_deepest.result c.in-Err.is refl c.quantify_deepest.ensures.made

@@ -1,0 +1,36 @@
+use Rattle.std.proofs.Common.{◌+◌, [], ◌∷◌, take, refl, sym, subst, arith, inr}
+use Rattle.node_table.specs.Table.{tree_of}
+use Rattle.node_table.specs.Collects.{AllValid}
+use Rattle.bdd_ops.specs.declared.op.Op.TheVariants.{Or}
+use Rattle.bdd_ops.proofs.Tries.{both_valid}
+use Rattle.timed_bits.specs.Changes.{at_time}
+use Rattle.timed_bits.specs.Entries.{IsAgeTree}
+use Rattle.operation_rows.specs.Kinds.{applied}
+use Rattle.operation_rows.specs.Lines.{EndsRows}
+use Rattle.operation_rows.specs.Past.{past_last}
+use Rattle.operation_rows.proofs.Lines.{stays_valid, end_err, end_more}
+use Rattle.operation_rows.proofs.past.past_joined_rows.Goals as goal
+
+pub operate_row-requires-clause-letters : goal.operate_row-requires-clause-letters
+operate_row-requires-clause-letters g c = both_valid c.args.store.now.table c.args.a c.args.z c.requires.kept c.requires.new
+
+pub operate_row-requires-clause-left : goal.operate_row-requires-clause-left
+operate_row-requires-clause-left g c = inr (0, omega arith, refl)
+
+pub operate_row-requires-clause-right : goal.operate_row-requires-clause-right
+operate_row-requires-clause-right g c = inr (1, omega arith, refl)
+
+pub past_last_row-requires-clause-roots : goal.past_last_row-requires-clause-roots
+past_last_row-requires-clause-roots g c = subst (AllValid c.operate_row.new.store.table) (sym c.operate_row.ensures.roots) (stays_valid c.args.store.now.table c.operate_row.new.store.table (take c.args.done c.args.handles.now) c.operate_row.ensures.row.roots_stay)
+
+pub past_last_row-requires-clause-ages : goal.past_last_row-requires-clause-ages
+past_last_row-requires-clause-ages g c = subst (IsAgeTree c.args.block.first c.args.block.bits) (sym c.in-Ok.ensures.row.is) c.requires.ages
+
+pub returns-in-Ok-clause-made : goal.returns-in-Ok-clause-made
+returns-in-Ok-clause-made g c =
+    let rest = subst (λ rs. EndsRows (c.args.number + 1) (past_last c.args.block.first c.args.block.bits c.args.past (tree_of c.operate_row.new.store.table c.in-Ok.e)) (at_time c.args.block.first c.args.block.bits c.args.past (tree_of c.operate_row.new.store.table c.in-Ok.e)) (tree_of c.operate_row.new.store.table c.in-Ok.e) rs c.operate_row.new.store.table c.past_last_row.new.store.table c.past_last_row.result) c.operate_row.ensures.roots c.past_last_row.ensures.made in
+    end_more c.args.number (applied Or (tree_of c.args.store.now.table c.args.a) (tree_of c.args.store.now.table c.args.z)) (take c.args.done c.args.handles.now) (c.args.a ∷ c.args.z ∷ []) c.args.store.now.table c.operate_row.new.store.table c.in-Ok.e (past_last c.args.block.first c.args.block.bits c.args.past (applied Or (tree_of c.args.store.now.table c.args.a) (tree_of c.args.store.now.table c.args.z))) (at_time c.args.block.first c.args.block.bits c.args.past (applied Or (tree_of c.args.store.now.table c.args.a) (tree_of c.args.store.now.table c.args.z))) (applied Or (tree_of c.args.store.now.table c.args.a) (tree_of c.args.store.now.table c.args.z)) c.past_last_row.new.store.table c.past_last_row.result c.in-Ok.ensures.row
+    (subst (λ t. EndsRows (c.args.number + 1) (past_last c.args.block.first c.args.block.bits c.args.past t) (at_time c.args.block.first c.args.block.bits c.args.past t) t (take c.args.done c.args.handles.now) c.operate_row.new.store.table c.past_last_row.new.store.table c.past_last_row.result) c.in-Ok.ensures.row.is rest)
+
+pub returns-in-Err-clause-made : goal.returns-in-Err-clause-made
+returns-in-Err-clause-made g c = end_err c.args.number (applied Or (tree_of c.args.store.now.table c.args.a) (tree_of c.args.store.now.table c.args.z)) (take c.args.done c.args.handles.now) (c.args.a ∷ c.args.z ∷ []) c.args.store.now.table c.operate_row.new.store.table c.in-Err.full (past_last c.args.block.first c.args.block.bits c.args.past (applied Or (tree_of c.args.store.now.table c.args.a) (tree_of c.args.store.now.table c.args.z))) (at_time c.args.block.first c.args.block.bits c.args.past (applied Or (tree_of c.args.store.now.table c.args.a) (tree_of c.args.store.now.table c.args.z))) (applied Or (tree_of c.args.store.now.table c.args.a) (tree_of c.args.store.now.table c.args.z)) c.in-Err.ensures.row
