@@ -1,0 +1,9 @@
+pub mod Books
+pub mod Drawing
+pub mod Ends
+pub mod Reading
+pub mod Shapes
+pub mod Spelling
+pub mod Standing
+pub mod Telling
+pub mod Timed

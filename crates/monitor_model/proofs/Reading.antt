@@ -1,0 +1,4 @@
+pub mod Codes
+pub mod Places
+pub mod Logs
+pub mod Answered

@@ -1,0 +1,12 @@
+pub mod Aged
+pub mod Cubes
+pub mod Deepest
+pub mod Diagrams
+pub mod Free
+pub mod Kept
+pub mod Kinds
+pub mod Levels
+pub mod Living
+pub mod Serving
+pub mod Staying
+pub mod Unpaired

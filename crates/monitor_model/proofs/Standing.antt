@@ -1,0 +1,4 @@
+pub mod Beginning
+pub mod Opening
+pub mod Rows
+pub mod Stepping

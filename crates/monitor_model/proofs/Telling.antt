@@ -1,0 +1,5 @@
+pub mod Apart
+pub mod Told
+pub mod Tells
+pub mod Given
+pub mod Verdict

@@ -1,0 +1,12 @@
+pub mod Setting
+pub mod Books
+pub mod Drawn
+pub mod Operations
+pub mod Blocks
+pub mod Rows
+pub mod Stands
+pub mod Ends
+pub mod Shape
+pub mod State
+pub mod Reading
+pub mod Laws
