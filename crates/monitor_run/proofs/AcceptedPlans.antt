@@ -1,8 +1,8 @@
 -- The table of an accepted specification is one that the monitor takes.
-use Rattle.std.proofs.Common.{◌≡◌, ℕ, ◌+◌, List, [], ◌∷◌, ◌++◌, length, length-append, refl, sym, ap, ◌∙◌, arith, Bool, true, false, IsTrue, None}
+use Rattle.std.proofs.Common.{◌≡◌, ℕ, ◌+◌, List, [], ◌∷◌, ◌++◌, length, length-append, refl, sym, ap, ◌∙◌, arith, Bool, true, false, ◌||◌, IsTrue, None}
 use Rattle.std.proofs.lemmas.List.{length-map}
 use Rattle.std.specs.Prelude.{bytes_eq, if◌then◌else◌}
-use Rattle.std.specs.List.{range_with_len}
+use Rattle.std.specs.List.{range_with_len, AllByRecursion}
 use Rattle.qtl_syntax.specs.Tree.{Text, Formula, True, False, Atom, Not, And, Or, Implies, Iff, Prev, Since, TimedSince, Once, TimedOnce, Always, TimedAlways, Interval, Exists, Forall, Item, Pred, Prop}
 use Rattle.wellformed.specs.declared.core_formula.Variable.{Variable}
 use Rattle.wellformed.specs.declared.fault.NameFault.TheVariants.{LateMacro, MacroArity, ArityClash, FreeVariable}
@@ -12,10 +12,15 @@ use Rattle.wellformed.specs.Sound.{is_closed, variables_bound, are_closed}
 use Rattle.wellformed.proofs.Accepted.{first_item, item_closed, neither, no_node}
 use Rattle.wellformed.proofs.Sound.{and_true, both_bound, expansion_numbers, expansion_closed}
 use Rattle.subformulas.proofs.NumberedRows.{all_table, all_uses}
-use Rattle.monitor_step.specs.Stands.{IsPlan}
+use Rattle.subformulas.specs.Table.{HasLawfulBound, is_timed}
+use Rattle.subformulas.specs.declared.table.Kind.{Kind}
+use Rattle.subformulas.specs.declared.table.Kind.TheVariants as kind
+use Rattle.subformulas.specs.declared.table.Sub.{Sub}
+use Rattle.monitor_model.specs.Stands.{IsPlan}
 use Rattle.monitor_run.specs.Answer.{IsBuilt}
-use Rattle.monitor_run.specs.Stops.{table_in, variables_in}
-use Rattle.monitor_run.proofs.Untimed.{all_timed}
+use Rattle.monitor_run.specs.Stops.{setting_in, table_in, variables_in}
+use Rattle.monitor_run.specs.declared.limits.Limits.{Limits}
+use Rattle.monitor_run.proofs.Untimed.{all_timed, any_timed}
 
 -- a variable for each quantifier
 both_count : (xs ys : List Text) (a b : ℕ) → length xs ≡ a → length ys ≡ b → length (xs ++ ys) ≡ a + b
@@ -103,10 +108,31 @@ all_bound items clear =
     let d = neither (at_node ArityClash (first_in clash_pass [] 0 items)) _ c.1 in
     props_closed [] items 0 0 0 tt (no_node FreeVariable _ d.1) (no_node MacroArity _ c.0)
 
+lawful_kind : (k : Kind) → is_timed k ≡ false → HasLawfulBound k
+lawful_kind (kind.SinceAtMost n) e = absurd (cc)
+lawful_kind (kind.SinceMoreThan n) e = absurd (cc)
+lawful_kind (kind.OnceAtMost n) e = absurd (cc)
+lawful_kind (kind.OnceMoreThan n) e = absurd (cc)
+lawful_kind (kind.AlwaysAtMost n) e = absurd (cc)
+lawful_kind (kind.AlwaysMoreThan n) e = absurd (cc)
+lawful_kind _ e = tt
+
+-- without timed operators no bound is too large
+lawful_bounds : (subs : List Sub) → any_timed subs ≡ false → AllByRecursion (λ u. HasLawfulBound u.kind) subs
+lawful_bounds [] e = tt
+lawful_bounds (u ∷ subs) e =
+    let parts = neither_timed (is_timed u.kind) (any_timed subs) e in
+    (lawful_kind u.kind parts.0, lawful_bounds subs parts.1)
+  where
+    neither_timed : (a b : Bool) → (a || b) ≡ false → (a ≡ false) × (b ≡ false)
+    neither_timed true b e = absurd (cc)
+    neither_timed false b e = (refl, e)
+
 -- the table of accepted items without timed operators
-pub accepted_plan : (items : List Item) → first_fault items ≡ None → IsBuilt items → IsPlan (length (variables_in items)) (table_in items)
-accepted_plan items clear built =
+pub accepted_plan : (limits : Limits) (items : List Item) → first_fault items ≡ None → IsBuilt items → IsPlan (setting_in limits items)
+accepted_plan limits items clear built =
     record {
-      table = record { table = all_table 0 (expanded_props [] 0 items); untimed = all_timed 0 (expanded_props [] 0 items) ∙ built };
+      table = all_table 0 (expanded_props [] 0 items);
       uses = all_uses (length (variables_in items)) (expanded_props [] 0 items) (in_order items) (all_bound items clear);
+      bounds = lawful_bounds (table_in items) (all_timed 0 (expanded_props [] 0 items) ∙ built);
     }

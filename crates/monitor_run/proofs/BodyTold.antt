@@ -4,7 +4,7 @@ use Rattle.std.specs.Prelude.{Option, Some, None, IfSome, IsSomeAnd, ◌≢◌}
 use Rattle.mon_base.specs.Told.{text_of, GivesText}
 use Rattle.qtl_syntax.specs.Tree.{Text, Item}
 use Rattle.qtl_truth.specs.declared.event.Event.{Event}
-use Rattle.monitor_step.specs.Ends as event_end
+use Rattle.monitor_model.specs.Ends as event_end
 use Rattle.monitor_run.specs.Answer.{Accepts, Checked, LogBody, StoppedLog, IsFrontOfLines, IsFrontOfReport}
 use Rattle.monitor_run.specs.Naming.{IsReachedAt, TellsName}
 use Rattle.monitor_run.specs.Reading.{LogReached, LogTold, Reaches}

@@ -5,7 +5,7 @@ use Rattle.qtl_syntax.specs.Tree.{Text, Item}
 use Rattle.mon_base.specs.Told.{text_of}
 use Rattle.log_reader.specs.Records as log_records
 use Rattle.log_reader.specs.declared.fault.LogFault.{LogFault}
-use Rattle.monitor_step.specs.Ends as event_end
+use Rattle.monitor_model.specs.Ends as event_end
 use Rattle.monitor_run.specs.Answer.{Accepts, Checked, HasFaultCause, IsClear, IsDecided, IsWhole, LogBody, StoppedLog, Writes}
 use Rattle.monitor_run.specs.Records.{records, IsFaultAt}
 use Rattle.monitor_run.specs.Stops.{AllFit}
@@ -29,7 +29,7 @@ no_fault (log_records.At number why) fault is at = cc
 no_stop : (limits : Limits) (spec : Option Text) (items : List Item) (all : Text) (event : ℕ) (why : event_end.End) (events : ℕ) (body : Text) → Accepts spec items → AllFit limits items (records limits.log all).events →
     StoppedLog limits items all event why events body → ⊥
 no_stop limits spec items all event why events body accepted fits (s, _, _) =
-    never_stops limits items (accepted_plan items accepted.clear accepted.built) s.log s.event why (fits s.log s.later s.event s.split) s.stops
+    never_stops limits items (accepted_plan limits items accepted.clear accepted.built) s.log s.event why (fits s.log s.later s.event s.split) s.stops
 
 -- so it is judged whole
 log_whole : (limits : Limits) (spec : Option Text) (items : List Item) (all : Text) (unread : Text → Type 0) (end : End) (events : ℕ) (body : Text) → IsDecided end → Accepts spec items → IsClearLog limits items all →

@@ -1,14 +1,16 @@
 -- What an event does to the monitor, for the log that the monitor stands for.
-use Rattle.std.proofs.Common.{◌≡◌, ℕ, zero, suc, ◌+◌, inl, inr, List, [], ◌∷◌, ◌++◌, length, length-append, refl, sym, subst, append_assoc, arith}
+use Rattle.std.proofs.Common.{◌≡◌, ℕ, ◌+◌, ◌-◌, ◌<◌, ◌≤◌, ◌⊎◌, inl, inr, List, [], ◌∷◌, ◌++◌, length, length-append, refl, sym, ap, ◌∙◌, arith, true}
 use Rattle.std.specs.Prelude.{Option, Some, None, Result, Ok, Err, slice_get}
 use Rattle.std.specs.List.{AllByRecursion}
 use Rattle.qtl_syntax.specs.Tree.{Text}
-use Rattle.qtl_truth.specs.Truth.{IsText}
+use Rattle.qtl_truth.specs.Truth.{IsEvent, IsLog, time_at, time_of}
+use Rattle.qtl_truth.proofs.Past.{same_to_append}
+use Rattle.std.proofs.lemmas.Bool.{cases_lt}
 use Rattle.qtl_truth.specs.declared.event.Event.{Event}
-use Rattle.subformulas.specs.Memory.{Has}
 use Rattle.subformulas.proofs.ByNumber.{get_last}
-use Rattle.monitor_step.specs.Monitor.{State, MonitorStands, StepAnswers}
-use Rattle.monitor_step.specs.Stands.{AreTexts}
+use Rattle.monitor_model.specs.Reading.{Answers}
+use Rattle.monitor_model.specs.State.{State, Stands}
+use Rattle.monitor_step.specs.Monitor.{MatchEnd}
 use Rattle.monitor_step.specs.declared.monitor.StepEnd.{StepEnd}
 use Rattle.monitor_step.specs.declared.monitor.StepEnd.TheVariants as step_end
 use Rattle.monitor_run.specs.Answer.{HasFaultCause}
@@ -17,47 +19,83 @@ use Rattle.monitor_run.specs.Judging.{ComesTo, Judges, WritesEvent, end_of_step}
 use Rattle.monitor_run.specs.Standing.{StandsFor}
 use Rattle.monitor_run.specs.declared.judge.Judge.{Judge}
 
--- each argument of the event is a text
-pub each_text : (args : List Text) (a : Text) → AllByRecursion IsText args → Has args a → IsText a
-each_text [] a all has = absurd has
-each_text (x ∷ args) a all (inl same) = subst IsText same all.0
-each_text (x ∷ args) a all (inr has) = each_text args a all.1 has
+-- the time at a position of the first events is as before
+time_before : (log more : List Event) (i : ℕ) → 1 ≤ i → i ≤ length log → time_at (log ++ more) i ≡ time_at log i
+time_before log more i low high = ap time_of (sym ((same_to_append log more).events i low high))
 
--- so the arguments of one event more are texts
-texts_more : (log : List Event) (e : Event) → AreTexts log → AllByRecursion IsText e.args → AreTexts (log ++ e ∷ [])
-texts_more [] e old own zero f a at has = let s : Some e ≡ Some f = at in let same : e ≡ f = cc in each_text f.args a (subst (λ (x : Event). AllByRecursion IsText x.args) same own) has
-texts_more [] e old own (suc j) f a at has = let no : None ≡ Some f = at in absurd (let n : ⊥ = cc in n)
-texts_more (x ∷ log) e old own zero f a at has = old zero f a at has
-texts_more (x ∷ log) e old own (suc j) f a at has = texts_more log e (λ k. old (suc k)) own j f a at has
+time_last : (log : List Event) (e : Event) → time_at (log ++ e ∷ []) (length log + 1) ≡ e.time
+time_last log e =
+    let at : length log + 1 - 1 ≡ length log = omega arith in
+    ap time_of (ap (λ (j : ℕ). slice_get (log ++ e ∷ []) j) at ∙ get_last log [] e)
+
+all_more : (log : List Event) (e : Event) → AllByRecursion IsEvent log → IsEvent e →
+    AllByRecursion IsEvent (log ++ e ∷ [])
+all_more [] e h own = (own, tt)
+all_more (x ∷ log) e h own = (h.0, all_more log e h.1 own)
+
+-- one event more is a log where its time isn't below that of the last event
+pub log_more : (log : List Event) (e : Event) → IsLog log → IsEvent e →
+    time_at log (length log) ≤ e.time → IsLog (log ++ e ∷ [])
+log_more log e is_log own later = record {
+  events = all_more log e is_log.events own;
+  times = λ i j low order high.
+      let count = length-append log (e ∷ []) in
+      by_place i j low order (omega (arith, count, high)) (cases_lt (length log) i) (cases_lt (length log) j);
+}
+  where
+    by_place : (i j : ℕ) → 1 ≤ j → j ≤ i → i ≤ length log + 1 →
+        (length log < i) ⊎ (i ≤ length log) → (length log < j) ⊎ (j ≤ length log) →
+        time_at (log ++ e ∷ []) j ≤ time_at (log ++ e ∷ []) i
+    by_place i j low order high (inr p) (inl q) = absurd (omega (arith, order, p, q))
+    by_place i j low order high (inr p) (inr q) =
+        let before = is_log.times i j low order p in
+        let at_j = time_before log (e ∷ []) j low q in
+        let at_i = time_before log (e ∷ []) i (omega (arith, low, order)) p in
+        omega (arith, before, at_j, at_i)
+    by_place i j low order high (inl p) (inl q) =
+        let same : j ≡ i = omega (arith, order, high, p, q) in
+        let times = ap (time_at (log ++ e ∷ [])) same in
+        omega (arith, times)
+    by_place i j low order high (inl p) (inr q) =
+        let last : i ≡ length log + 1 = omega (arith, high, p) in
+        let at_i = ap (time_at (log ++ e ∷ [])) last ∙ time_last log e in
+        let at_j = time_before log (e ∷ []) j low q in
+        let before = is_log.times (length log) j low q (omega arith) in
+        omega (arith, before, at_j, at_i, later)
 
 -- what a step answers for each log that the monitor stands for
-abbrev pub Answers : (old new : State) → Event → Result Unit StepEnd → Type 0
-Answers old new e r = (log : List Event) (i : ℕ) → MonitorStands old log i → slice_get log i ≡ Some e → AreTexts log → StepAnswers old new log i e r
+abbrev pub StepAnswers : (old new : State) → Event → Result Unit StepEnd → Type 0
+StepAnswers old new e r =
+    (log : List Event) → IsLog (log ++ e ∷ []) → Stands old log → MatchEnd r (Answers old e new log)
 
-answered : (old new : State) (log later : List Event) (e : Event) (r : Result Unit StepEnd) → StandsFor old log → AreTexts (log ++ e ∷ later) → Answers old new e r → StepAnswers old new (log ++ e ∷ later) (length log) e r
-answered old new log later e r s texts a = a (log ++ e ∷ later) (length log) (s.stands (e ∷ later) texts) (get_last log later e) texts
+-- so it answers for the log that a judge stands for
+answered : (old new : State) (log : List Event) (e : Event) (r : Result Unit StepEnd) →
+    StandsFor old log → IsEvent e → old.last_time ≤ e.time → StepAnswers old new e r →
+    IsLog (log ++ e ∷ []) × MatchEnd r (Answers old e new log)
+answered old new log e r s own later a =
+    let is_log = log_more log e s.is_log own (let t = s.stands.time in omega (arith, t, later)) in
+    (is_log, a log is_log s.stands)
 
 -- an event that is taken
-pub taken : (old new : State) (log : List Event) (e : Event) (u : Unit) → StandsFor old log → AllByRecursion IsText e.args → Answers old new e (Ok u) → ComesTo old log e None × StandsFor new (log ++ e ∷ [])
-taken old new log e u s own a =
-    let texts = texts_more log e s.texts own in (
-      (answered old new log [] e (Ok u) s texts a).0,
-      record {
-        texts = texts;
-        stands = λ later all.
-            let n : length (log ++ e ∷ []) ≡ length log + 1 = let m = length-append log (e ∷ []) in omega (arith, m) in
-            let same : (log ++ e ∷ []) ++ later ≡ log ++ e ∷ later = append_assoc log (e ∷ []) later in
-            let after : MonitorStands new (log ++ e ∷ later) (length log + 1) = (answered old new log later e (Ok u) s (subst AreTexts same all) a).1 in
-            subst (λ (l : List Event). MonitorStands new l (length (log ++ e ∷ []))) (sym same) (subst (λ (k : ℕ). MonitorStands new (log ++ e ∷ later) k) (sym n) after);
-      },
-    )
+pub taken : (old new : State) (log : List Event) (e : Event) (u : Unit) → StandsFor old log →
+    IsEvent e → old.last_time ≤ e.time → new.has_now ≡ true → StepAnswers old new e (Ok u) →
+    ComesTo old log e None × StandsFor new (log ++ e ∷ [])
+taken old new log e u s own later judged a =
+    let (is_log, h) = answered old new log e (Ok u) s own later a in
+    let after : Answers old e new log None = h in
+    let (end, stands, gives) = after in
+    (end, record { is_log = is_log; stands = stands; judged = λ some. judged })
 
 -- and one that is refused
-pub refused : (old new : Judge) (log : List Event) (e : Event) (end : StepEnd) → StandsFor old.monitor log → AllByRecursion IsText e.args → Answers old.monitor new.monitor e (Err end) →
+pub refused : (old new : Judge) (log : List Event) (e : Event) (end : StepEnd) →
+    StandsFor old.monitor log → IsEvent e → old.monitor.last_time ≤ e.time →
+    StepAnswers old.monitor new.monitor e (Err end) →
     Judges old new log e (Err (end_of_step (old.events + 1) end))
-refused old new log e (step_end.CodesFull x need) s own a = (refl, answered old.monitor new.monitor log [] e (Err (step_end.CodesFull x need)) s (texts_more log e s.texts own) a)
-refused old new log e (step_end.NodesFull k row) s own a = (refl, answered old.monitor new.monitor log [] e (Err (step_end.NodesFull k row)) s (texts_more log e s.texts own) a)
-refused old new log e step_end.NoMemory s own a = tt
+refused old new log e (step_end.CodesFull x need) s own later a =
+    (refl, (answered old.monitor new.monitor log e (Err (step_end.CodesFull x need)) s own later a).1)
+refused old new log e (step_end.NodesFull k row) s own later a =
+    (refl, (answered old.monitor new.monitor log e (Err (step_end.NodesFull k row)) s own later a).1)
+refused old new log e step_end.NoMemory s own later a = tt
 
 pub refused_written : (old new : Judge) (sent : Option Text) (held : Text) (event : ℕ) (end : StepEnd) → new.events ≡ old.events → new.violations ≡ old.violations →
     WritesEvent old new sent sent held held (Err (end_of_step event end))

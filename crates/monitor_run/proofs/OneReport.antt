@@ -12,13 +12,13 @@ use Rattle.subformulas.proofs.ByNumber.{get_last}
 use Rattle.log_reader.specs.Records as log_records
 use Rattle.log_reader.specs.Standing.{numbered}
 use Rattle.log_reader.specs.declared.fault.LogFault.{LogFault}
-use Rattle.monitor_step.specs.Ends as event_end
-use Rattle.monitor_step.specs.Stands.{IsPlan}
-use Rattle.monitor_step.proofs.OneEnd.{one_end}
+use Rattle.monitor_model.specs.Ends as event_end
+use Rattle.monitor_model.specs.Stands.{IsPlan}
+use Rattle.monitor_model.proofs.Ends.OneEnd.{one_end}
 use Rattle.monitor_run.specs.Answer.{Accepts, IsTooLong, HasFault, HasNameFault, IsNotBuilt, IsBuilt, Spells, Judged, WholeLog, StoppedLog, LogBody, Checked, IsBody, IsNamed, IsAnswer, IsDecided, IsExact, Writes, end_of_verdicts, last_line}
 use Rattle.monitor_run.specs.Records.{records, IsFaultAt}
 use Rattle.monitor_run.specs.Report.{violation_lines}
-use Rattle.monitor_run.specs.Stops.{AllFit, ComesAt, table_in, variable_name, variables_in}
+use Rattle.monitor_run.specs.Stops.{AllFit, ComesAt, setting_in, variable_name}
 use Rattle.monitor_run.specs.Verdicts.{Property, properties, names, IsRow, AreVerdicts, false_count}
 use Rattle.monitor_run.specs.declared.limits.Limits.{Limits}
 use Rattle.monitor_run.specs.declared.end.End.{End}
@@ -62,12 +62,12 @@ one_verdicts log ps rows others a b =
     same_row log (i + 1) ps (get_or rows i []) (get_or others i []) (a.each i high) (b.each i high))
 
 -- at an event one thing comes
-pub one_comes : (limits : Limits) (items : List Item) → IsPlan (length (variables_in items)) (table_in items) → (log : List Event) (e : Event) (a b : Option event_end.End) →
+pub one_comes : (limits : Limits) (items : List Item) → IsPlan (setting_in limits items) → (log : List Event) (e : Event) (a b : Option event_end.End) →
     ComesAt limits items log e a → ComesAt limits items log e b → a ≡ b
 one_comes limits items plan log e a b p q =
-    one_end limits.bits limits.nodes (length (variables_in items)) (table_in items) (log ++ e ∷ []) (length log) e a b plan (get_last log [] e) p q
+    one_end (setting_in limits items) log (length log) e plan a b p q
 
-pub never_stops : (limits : Limits) (items : List Item) → IsPlan (length (variables_in items)) (table_in items) → (log : List Event) (e : Event) (why : event_end.End) →
+pub never_stops : (limits : Limits) (items : List Item) → IsPlan (setting_in limits items) → (log : List Event) (e : Event) (why : event_end.End) →
     ComesAt limits items log e None → ComesAt limits items log e (Some why) → ⊥
 never_stops limits items plan log e why p q = let never : None ≡ Some why = one_comes limits items plan log e None (Some why) p q in cc
 
@@ -109,7 +109,7 @@ record Stopped (limits : Limits) (items : List Item) (events judged : List Event
 abbrev Reached : Limits → List Item → (events judged : List Event) → (whole end : End) → Type 0
 Reached limits items events judged whole end = ((judged ≡ events) × (end ≡ whole)) ⊎ Stopped limits items events judged end
 
-module _ (limits : Limits) (items : List Item) (plan : IsPlan (length (variables_in items)) (table_in items)) (events : List Event) where
+module _ (limits : Limits) (items : List Item) (plan : IsPlan (setting_in limits items)) (events : List Event) where
   -- no event behind the stop was judged
   not_beyond : (judged other rest : List Event) (end : End) → Stopped limits items events judged end → events ≡ other ++ rest → AllFit limits items other → length other ≤ length judged
   not_beyond judged other rest end s split fits = by_length (cases_lt (length judged) (length other))
@@ -193,7 +193,7 @@ record Reading (limits : Limits) (items : List Item) (log : Option Text) (end : 
 abbrev report_of : List Item → List Event → List (List Bool) → End → Text
 report_of items judged rows end = violation_lines 1 (names (properties items)) rows ++ last_line end (length judged) (name_due items end)
 
-one_reading : (limits : Limits) (items : List Item) (log : Option Text) (end due : End) (report other : Text) → IsPlan (length (variables_in items)) (table_in items) →
+one_reading : (limits : Limits) (items : List Item) (log : Option Text) (end due : End) (report other : Text) → IsPlan (setting_in limits items) →
     Reading limits items log end report → Reading limits items log due other → (end ≡ due) × (report ≡ other)
 one_reading limits items log end due report other plan a b =
     let same : b.all ≡ a.all = let p = a.given in let q = b.given in cc in
@@ -473,7 +473,7 @@ one_decision laws limits spec log end due report other (inl (refused, r)) (inl (
 one_decision laws limits spec log end due report other (inl (refused, r)) (inr (items, accepted, read)) = absurd (accepted_or_refused laws spec items end accepted refused)
 one_decision laws limits spec log end due report other (inr (items, accepted, read)) (inl (refused, r)) = absurd (accepted_or_refused laws spec items due accepted refused)
 one_decision laws limits spec log end due report other (inr (items, accepted, read)) (inr (others, accepted', read')) =
-    one_reading limits items log end due report other (accepted_plan items accepted.clear accepted.built) read
+    one_reading limits items log end due report other (accepted_plan limits items accepted.clear accepted.built) read
     (subst (λ (x : List Item). Reading limits x log due other) (one_spelled laws spec items others accepted.spelled accepted'.spelled) read')
 
 -- a name that is told is the one that is due

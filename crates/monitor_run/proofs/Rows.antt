@@ -16,9 +16,10 @@ use Rattle.subformulas.proofs.Closed.{closed_is}
 use Rattle.subformulas.proofs.FromLists.{in_list, truth_read}
 use Rattle.node_tree.specs.Tree.{Zero, One}
 use Rattle.wellformed.specs.CoreTruth.{TrueCore}
-use Rattle.monitor_step.specs.Monitor.{State, MonitorStands, variables_of, now_of, is_one, verdict_at}
-use Rattle.monitor_step.specs.Stands.{AreTexts}
-use Rattle.monitor_step.proofs.Verdict.{verdict}
+use Rattle.monitor_model.specs.State.{State, Stands, setting_of, now_of, is_one, verdict_at}
+use Rattle.monitor_model.specs.Stands.{AreNow}
+use Rattle.monitor_model.proofs.Telling.Verdict.{verdict}
+use Rattle.monitor_step.specs.Monitor.{variables_of}
 use Rattle.monitor_run.specs.Report.{event_lines, violation_lines}
 use Rattle.monitor_run.specs.Standing.{IsPlanOf, StandsFor, names_in, row_of}
 use Rattle.monitor_run.specs.Verdicts.{Property, properties, properties_behind, names, IsRow, AreVerdicts, false_in, false_count}
@@ -35,32 +36,45 @@ names_kept log nu subs before (Prop name body ∷ items) (q ∷ props) k =
     let first = k.0 in
     cc
 
--- the verdict on a property is its truth
-verdict_tells : (m : State) → IsSound m.plan → (log : List Event) (i : ℕ) (nu : List Text) → MonitorStands m log i → 1 ≤ i → variables_of m ≤ length nu → (q : PlanProp) → IsClosedProp m.plan.subs q →
-    HasRoot (length m.plan.subs) q → IsTrue (verdict_at m q.root) ↔ TrueCore log nu (formula_at m.plan.subs q.root) i
-verdict_tells m sound log i nu stands some long q closed root =
-    by_tree (verdict m.bits m.plan.subs log i stands.books q.root (now_of m q.root) (closed_is (formula_at m.plan.subs q.root) closed) (stands.stands.now_is some q.root root.0 root.1) (texts_in nu))
-  where
-    reads : TrueCore log nu (formula_at m.plan.subs q.root) i ↔ Truth log (formula_at m.plan.subs q.root) (texts_in nu) i
-    reads = truth_read log (variables_of m) (formula_at m.plan.subs q.root) (each_atom_below (variables_of m) m.plan.subs sound.table sound.uses q.root root.0 root.1) nu (texts_in nu) (λ x l. in_list nu x (omega (arith, long, l))) i
+-- the verdicts of a monitor that stands for a log and has judged an event are the truths there
+module _ (m : State) (sound : IsSound m.plan) (log : List Event) (nu : List Text) (stands : Stands m log)
+    (judged : m.has_now ≡ true) (long : variables_of m ≤ length nu) where
+  verdict_tells : (q : PlanProp) → IsClosedProp m.plan.subs q → HasRoot (length m.plan.subs) q →
+      IsTrue (verdict_at m q.root) ↔ TrueCore log nu (formula_at m.plan.subs q.root) (length log)
+  verdict_tells q closed root =
+      by_tree
+      (verdict (setting_of m) log (length log) stands.books q.root (now_of m q.root)
+      (closed_is (formula_at m.plan.subs q.root) closed)
+      (stands.now judged q.root root.0 root.1) (texts_in nu))
+    where
+      reads : TrueCore log nu (formula_at m.plan.subs q.root) (length log) ↔
+          Truth log (formula_at m.plan.subs q.root) (texts_in nu) (length log)
+      reads =
+          truth_read log (variables_of m) (formula_at m.plan.subs q.root)
+          (each_atom_below (variables_of m) m.plan.subs sound.table sound.uses q.root root.0 root.1) nu
+          (texts_in nu) (λ x l. in_list nu x (omega (arith, long, l))) (length log)
 
-    by_tree : ((now_of m q.root ≡ One) × Truth log (formula_at m.plan.subs q.root) (texts_in nu) i) ⊎ ((now_of m q.root ≡ Zero) × (¬ Truth log (formula_at m.plan.subs q.root) (texts_in nu) i)) →
-        IsTrue (verdict_at m q.root) ↔ TrueCore log nu (formula_at m.plan.subs q.root) i
-    by_tree (inl h) = (λ x. reads.1 h.1, λ x. ap is_one h.0)
-    by_tree (inr h) = (λ x. absurd (let no : true ≡ false = sym x ∙ ap is_one h.0 in cc), λ x. absurd (h.1 (reads.0 x)))
+      by_tree :
+          ((now_of m q.root ≡ One) × Truth log (formula_at m.plan.subs q.root) (texts_in nu) (length log)) ⊎
+          ((now_of m q.root ≡ Zero) × (¬ Truth log (formula_at m.plan.subs q.root) (texts_in nu) (length log))) →
+          IsTrue (verdict_at m q.root) ↔ TrueCore log nu (formula_at m.plan.subs q.root) (length log)
+      by_tree (inl h) = (λ x. reads.1 h.1, λ x. ap is_one h.0)
+      by_tree (inr h) = (λ x. absurd (let no : true ≡ false = sym x ∙ ap is_one h.0 in cc), λ x. absurd (h.1 (reads.0 x)))
 
-rows_kept : (m : State) → IsSound m.plan → (log : List Event) (i : ℕ) (nu : List Text) → MonitorStands m log i → 1 ≤ i → variables_of m ≤ length nu → (before items : List Item) (props : List PlanProp) →
-    AreKept log nu before items (props_at m.plan.subs props) → AllByRecursion (IsClosedProp m.plan.subs) props → AllByRecursion (HasRoot (length m.plan.subs)) props →
-    IsRow log i (properties_behind before items) (map (λ q. verdict_at m q.root) props)
-rows_kept m sound log i nu stands some long before [] [] k closed roots = tt
-rows_kept m sound log i nu stands some long before [] (q ∷ props) k closed roots = absurd k
-rows_kept m sound log i nu stands some long before (Pred name params body ∷ items) props k closed roots =
-    rows_kept m sound log i nu stands some long (Pred name params body ∷ before) items props k closed roots
-rows_kept m sound log i nu stands some long before (Prop name body ∷ items) [] k closed roots = absurd k
-rows_kept m sound log i nu stands some long before (Prop name body ∷ items) (q ∷ props) k closed roots =
-    let here = k.1 i in
-    let tells = verdict_tells m sound log i nu stands some long q closed.0 roots.0 in
-    ((λ x. here.1 (tells.0 x), λ x. tells.1 (here.0 x)), rows_kept m sound log i nu stands some long (Prop name body ∷ before) items props k.2 closed.1 roots.1)
+  rows_kept : (before items : List Item) (props : List PlanProp) →
+      AreKept log nu before items (props_at m.plan.subs props) →
+      AllByRecursion (IsClosedProp m.plan.subs) props →
+      AllByRecursion (HasRoot (length m.plan.subs)) props →
+      IsRow log (length log) (properties_behind before items) (map (λ q. verdict_at m q.root) props)
+  rows_kept before [] [] k closed roots = tt
+  rows_kept before [] (q ∷ props) k closed roots = absurd k
+  rows_kept before (Pred name params body ∷ items) props k closed roots =
+      rows_kept (Pred name params body ∷ before) items props k closed roots
+  rows_kept before (Prop name body ∷ items) [] k closed roots = absurd k
+  rows_kept before (Prop name body ∷ items) (q ∷ props) k closed roots =
+      let here = k.1 (length log) in
+      let tells = verdict_tells q closed.0 roots.0 in
+      ((λ x. here.1 (tells.0 x), λ x. tells.1 (here.0 x)), rows_kept (Prop name body ∷ before) items props k.2 closed.1 roots.1)
 
 -- a list with a text for each variable
 abbrev texts_for : ℕ → List Text
@@ -81,8 +95,7 @@ pub row_right : (items : List Item) (m : State) (log : List Event) → IsPlanOf 
 row_right items m log p s some =
     let nu = texts_for (variables_of m) in
     let long = many_texts (variables_of m) in
-    let stands = subst (λ (l : List Event). AreTexts l → MonitorStands m l (length log)) (append-nil log) (s.stands []) s.texts in
-    rows_kept m p.sound log (length log) nu stands some long [] items m.plan.props (p.kept log nu long) p.sound.closed p.sound.roots
+    rows_kept m p.sound log nu s.stands (s.judged some) long [] items m.plan.props (p.kept log nu long) p.sound.closed p.sound.roots
 
 -- a row stays right when an event comes
 row_stays : (log : List Event) (e : Event) (i : ℕ) → 1 ≤ i → i ≤ length log → (ps : List Property) (row : List Bool) → IsRow log i ps row → IsRow (log ++ e ∷ []) i ps row

@@ -9,7 +9,7 @@ use Rattle.bdd_ops.specs.Shelf.{IsLarge}
 use Rattle.wellformed.specs.declared.core_formula.Variable.{Variable}
 use Rattle.subformulas.specs.OperationRows.{rows_of}
 use Rattle.subformulas.specs.declared.table.Sub.{Sub}
-use Rattle.monitor_step.specs.Answers.{temporal_count}
+use Rattle.monitor_model.specs.State.{temporal_count}
 use Rattle.monitor_step.specs.Monitor.{step_bound}
 use Rattle.monitor_run.specs.Cost.{IsAmple, event_bound, events_asked, IsAsked, CostsAtMost, RunCosts}
 use Rattle.monitor_run.specs.Judging.{Spends}

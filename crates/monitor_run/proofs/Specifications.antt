@@ -7,7 +7,7 @@ use Rattle.subformulas.specs.Table.{Table}
 use Rattle.wellformed.specs.Expansion.{expanded_props}
 use Rattle.wellformed.specs.Timed.{has_timed}
 use Rattle.qtl_truth.specs.declared.event.Event.{Event}
-use Rattle.monitor_step.specs.Monitor.{MonitorStands}
+use Rattle.monitor_model.specs.State.{Stands}
 use Rattle.monitor_run.specs.Answer.{IsBuilt}
 use Rattle.monitor_run.specs.Specification.{SpecIs, IsSpelled, IsUnspelled, SpecRead, SpecRefused}
 use Rattle.monitor_run.specs.Standing.{HasSizes, IsPlanOf, StandsAt}
@@ -57,13 +57,17 @@ none_before [] later e is = let n : ⊥ = cc in n
 none_before (x ∷ before) later e is = let n : ⊥ = cc in n
 
 -- the judge before the first event
-pub judge_stands : (limits : Limits) (items : List Item) (judge : Judge) → IsPlanOf items judge.monitor.plan → HasSizes limits judge.monitor → ((log : List Event) → MonitorStands judge.monitor log 0) →
+pub judge_stands : (limits : Limits) (items : List Item) (judge : Judge) → IsPlanOf items judge.monitor.plan → HasSizes limits judge.monitor → Stands judge.monitor [] →
     judge.events ≡ 0 → judge.violations ≡ 0 → StandsAt limits items [] [] judge
 judge_stands limits items judge plan sizes stands events violations =
     record {
       plan = plan;
       sizes = sizes;
-      stands = record { texts = λ j e a at has. let n : ⊥ = cc in absurd n; stands = λ later texts. stands later };
+      stands = record {
+        is_log = record { events = tt; times = λ i j low order high. absurd (omega (arith, low, order, high)) };
+        stands = stands;
+        judged = λ some. absurd (omega (arith, some));
+      };
       fits = λ before later e is. absurd (none_before before later e is);
       right = record { count = refl; each = λ i h. absurd (omega arith) };
       events = events;

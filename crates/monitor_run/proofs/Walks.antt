@@ -9,8 +9,9 @@ use Rattle.mon_base.specs.Told.{AppendsFront}
 use Rattle.qtl_syntax.specs.Tree.{Text, Item}
 use Rattle.qtl_truth.specs.declared.event.Event.{Event}
 use Rattle.subformulas.specs.declared.table.Sub.{Sub}
-use Rattle.monitor_step.specs.Ends as event_end
-use Rattle.monitor_step.specs.Monitor.{State, variables_of}
+use Rattle.monitor_model.specs.Ends as event_end
+use Rattle.monitor_model.specs.Setting.{Setting}
+use Rattle.monitor_model.specs.State.{State, setting_of}
 use Rattle.log_reader.specs.Records.{Cut, At, cut}
 use Rattle.log_reader.specs.Standing.{Reading, Stands, with_rest, fresh_reading}
 use Rattle.log_reader.specs.Faults.{Fault}
@@ -24,7 +25,7 @@ use Rattle.monitor_run.specs.Reading.{LogReached, IsReadEnd}
 use Rattle.monitor_run.specs.Records.{records, IsFaultAt}
 use Rattle.monitor_run.specs.Report.{event_lines, violation_lines}
 use Rattle.monitor_run.specs.Standing.{IsPlanOf, HasSizes, StandsFor, StandsAt, Fed, Walked, WalkedAll, AreAll, row_of}
-use Rattle.monitor_run.specs.Stops.{AllFit, ComesAt, table_in, variables_in}
+use Rattle.monitor_run.specs.Stops.{AllFit, ComesAt, setting_in}
 use Rattle.monitor_run.specs.Verdicts.{properties, names, IsRow, AreVerdicts, false_in}
 use Rattle.monitor_run.specs.declared.end.End.{End}
 use Rattle.monitor_run.specs.declared.end.End.TheVariants.{AllTrue, Violated, Usage, SpecTooLong, Spec, Names, NotBuilt, Log, LogTooLong, CodesFull, NodesFull, OpenFault, ReadFault, WriteFault, NoMemory}
@@ -116,17 +117,19 @@ fits_more limits items log e fits comes before later x is = go (placed log befor
   go (inr h) = fits before h.0 x h.1
 
 -- what comes at an event, told by the plan and the sizes of the monitor, is what comes within the limits
-same_end : (b b' n n' v v' : ℕ) (subs subs' : List Sub) (log : List Event) (i : ℕ) (e : Event) (end : Option event_end.End) → b ≡ b' → n ≡ n' → v ≡ v' → subs ≡ subs' →
-    event_end.IsEnd b n v subs log i e end → event_end.IsEnd b' n' v' subs' log i e end
-same_end b b' n n' v v' subs subs' log i e end one two three four h =
-    subst (λ (x : ℕ). event_end.IsEnd x n' v' subs' log i e end) one (subst (λ (x : ℕ). event_end.IsEnd b x v' subs' log i e end) two
-    (subst (λ (x : ℕ). event_end.IsEnd b n x subs' log i e end) three (subst (λ (x : List Sub). event_end.IsEnd b n v x log i e end) four h)))
+same_setting : (limits : Limits) (items : List Item) (m : State) → IsPlanOf items m.plan →
+    HasSizes limits m → setting_of m ≡ setting_in limits items
+same_setting limits items m plan sizes =
+    let bits = sizes.bits in
+    let nodes = sizes.nodes in
+    let variables = ap length plan.variables in
+    let subs = plan.subs in
+    cc
 
 comes_at : (limits : Limits) (items : List Item) (m : State) (log : List Event) (e : Event) (end : Option event_end.End) → IsPlanOf items m.plan → HasSizes limits m →
     ComesTo m log e end → ComesAt limits items log e end
 comes_at limits items m log e end plan sizes h =
-    same_end m.bits limits.bits m.shelf.table.room limits.nodes (variables_of m) (length (variables_in items)) m.plan.subs (table_in items) (log ++ e ∷ []) (length log) e end
-    sizes.bits sizes.nodes (ap length plan.variables) plan.subs h
+    subst (λ (s : Setting). event_end.IsEnd s log (length log) e end) (same_setting limits items m plan sizes) h
 
 -- plan and sizes of the next judge
 next_plan : (items : List Item) (j k : Judge) → KeepsPlan j k → IsPlanOf items j.monitor.plan → IsPlanOf items k.monitor.plan

@@ -5,7 +5,7 @@ use Rattle.std.proofs.lemmas.List.{length-map}
 use Rattle.mon_base.specs.Told.{AppendsFront}
 use Rattle.qtl_syntax.specs.Tree.{Text}
 use Rattle.subformulas.specs.declared.table.PlanProp.{PlanProp}
-use Rattle.monitor_step.specs.Monitor.{State, verdict_at}
+use Rattle.monitor_model.specs.State.{State, verdict_at}
 use Rattle.monitor_run.specs.Passing.{Passes}
 use Rattle.monitor_run.specs.Report.{event_lines, verdict_text}
 use Rattle.monitor_run.specs.Standing.{names_in, row_of}

@@ -16,7 +16,7 @@ use Rattle.wellformed.specs.declared.fault.NameFault.TheVariants as name_fault
 use Rattle.log_reader.specs.Records as log_records
 use Rattle.log_reader.specs.declared.fault.LogFault.{LogFault}
 use Rattle.log_reader.specs.declared.fault.LogFault.TheVariants as log_fault
-use Rattle.monitor_step.specs.Ends as event_end
+use Rattle.monitor_model.specs.Ends as event_end
 use Rattle.monitor_run.specs.Records.{records, IsFaultAt}
 use Rattle.monitor_run.specs.Report.{violation_lines}
 use Rattle.monitor_run.specs.Stops.{AllFit, StopsAt, variable_name}

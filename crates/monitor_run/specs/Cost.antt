@@ -4,7 +4,7 @@ use Rattle.std.specs.List.{sum_by}
 use Rattle.mon_base.specs.Told.{text_of}
 use Rattle.qtl_syntax.specs.Tree.{Text, Item}
 use Rattle.subformulas.specs.OperationRows.{rows_of}
-use Rattle.monitor_step.specs.Answers.{temporal_count}
+use Rattle.monitor_model.specs.State.{temporal_count}
 use Rattle.monitor_run.specs.Answer.{Accepts}
 use Rattle.monitor_run.specs.Records.{records}
 use Rattle.monitor_run.specs.Stops.{table_in, variables_in}

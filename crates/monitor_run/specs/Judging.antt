@@ -3,8 +3,8 @@ use Rattle.std.specs.Prelude.{◌≡◌, ℕ, ◌+◌, ◌*◌, ◌≤◌, List,
 use Rattle.mon_base.specs.Told.{AppendsFront}
 use Rattle.qtl_syntax.specs.Tree.{Text}
 use Rattle.qtl_truth.specs.declared.event.Event.{Event}
-use Rattle.monitor_step.specs.Ends as event_end
-use Rattle.monitor_step.specs.Monitor.{State, variables_of}
+use Rattle.monitor_model.specs.Ends as event_end
+use Rattle.monitor_model.specs.State.{State, setting_of}
 use Rattle.monitor_step.specs.declared.monitor.StepEnd.{StepEnd}
 use Rattle.monitor_step.specs.declared.monitor.StepEnd.TheVariants as step_end
 use Rattle.monitor_run.specs.Passing.{Passes}
@@ -37,7 +37,7 @@ end_of_step event step_end.NoMemory = NoMemory
 
 -- what comes at event e behind these events, with plan and sizes of the monitor
 abbrev pub ComesTo : State → List Event → Event → Option event_end.End → Type 0
-ComesTo m log e end = event_end.IsEnd m.bits m.shelf.table.room (variables_of m) m.plan.subs (log ++ e ∷ []) (length log) e end
+ComesTo m log e end = event_end.IsEnd (setting_of m) log (length log) e end
 
 -- the monitor takes event e behind these events, or can't judge it
 abbrev pub Judges : (old new : Judge) → List Event → Event → Result Unit End → Type 0

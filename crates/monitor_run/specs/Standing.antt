@@ -1,12 +1,12 @@
 -- What a judge stands for after the events of a log, and how far a log was read.
 use Rattle.std.specs.Prelude.{◌≡◌, ℕ, ◌≤◌, List, [], ◌++◌, map, length, Bool, true, false, Option, Some}
 use Rattle.qtl_syntax.specs.Tree.{Text, Item}
+use Rattle.qtl_truth.specs.Truth.{IsLog}
 use Rattle.qtl_truth.specs.declared.event.Event.{Event}
 use Rattle.wellformed.specs.Kept.{AreKept}
 use Rattle.subformulas.specs.Table as table
 use Rattle.subformulas.specs.Unfolded.{props_at}
-use Rattle.monitor_step.specs.Monitor as monitor
-use Rattle.monitor_step.specs.Stands.{AreTexts}
+use Rattle.monitor_model.specs.State as monitor
 use Rattle.log_reader.specs.Records.{Rest, cut}
 use Rattle.log_reader.specs.Standing.{Reading, Stands}
 use Rattle.monitor_run.specs.Passing.{Passes}
@@ -37,10 +37,11 @@ pub record HasSizes (limits : Limits) (m : monitor.State) : Type 0 where
   pub nodes : m.shelf.table.room ≡ limits.nodes
   pub cache : m.shelf.memo.entries ≡ limits.cache
 
--- the monitor stands for these events, however the log goes on; their arguments are texts
+-- the monitor stands for these events, which are a log
 pub record StandsFor (m : monitor.State) (log : List Event) : Type 0 where
-  pub texts : AreTexts log
-  pub stands : (later : List Event) → AreTexts (log ++ later) → monitor.MonitorStands m (log ++ later) (length log)
+  pub is_log : IsLog log
+  pub stands : monitor.Stands m log
+  pub judged : 1 ≤ length log → m.has_now ≡ true
 
 -- the monitor stands for the log, at each of whose events codes and nodes sufficed, and the verdicts of its events are counted
 pub record StandsAt (limits : Limits) (items : List Item) (log : List Event) (rows : List (List Bool)) (judge : Judge) : Type 0 where

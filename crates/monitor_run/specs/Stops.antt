@@ -7,7 +7,8 @@ use Rattle.wellformed.specs.Expansion.{expanded_props, props_variables}
 use Rattle.wellformed.specs.declared.core_formula.Variable.{Variable}
 use Rattle.subformulas.specs.Numbering.{all_numbered}
 use Rattle.subformulas.specs.declared.table.Sub.{Sub}
-use Rattle.monitor_step.specs.Ends as event_end
+use Rattle.monitor_model.specs.Ends as event_end
+use Rattle.monitor_model.specs.Setting.{Setting}
 use Rattle.monitor_run.specs.declared.limits.Limits.{Limits}
 
 -- the limits are lawful
@@ -35,9 +36,19 @@ table_in items = all_numbered 0 (expanded_props [] 0 items)
 abbrev pub variable_name : List Item → ℕ → Option Text
 variable_name items x = option_map (λ v. v.name) (slice_get (variables_in items) x)
 
+-- what a monitor of the specification is set up with
+abbrev pub setting_in : Limits → List Item → Setting
+setting_in limits items = record {
+  bits = limits.bits;
+  nodes = limits.nodes;
+  variables = length (variables_in items);
+  subs = table_in items;
+}
+
 -- what comes at event e behind these events: nothing, or why it can't be judged
-abbrev pub ComesAt : Limits → List Item → List Event → Event → Option event_end.End → Type 0
-ComesAt limits items log e end = event_end.IsEnd limits.bits limits.nodes (length (variables_in items)) (table_in items) (log ++ e ∷ []) (length log) e end
+abbrev pub ComesAt :
+    Limits → List Item → List Event → Event → Option event_end.End → Type 0
+ComesAt limits items log e end = event_end.IsEnd (setting_in limits items) log (length log) e end
 
 -- codes and nodes suffice at each of these events
 abbrev pub AllFit : Limits → List Item → List Event → Type 0

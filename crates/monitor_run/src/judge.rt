@@ -5,7 +5,7 @@ ghost use Rattle.bdd_ops.specs.Shelf.{IsLarge};
 ghost use Rattle.mon_base.specs.Causes.{HasCause, Rose};
 ghost use Rattle.mon_base.specs.Told.{AppendsFront};
 ghost use Rattle.monitor_step.specs.Monitor.{step_bound};
-ghost use Rattle.qtl_truth.specs.Truth.{IsText};
+ghost use Rattle.qtl_truth.specs.Truth.{IsEvent, IsText};
 ghost use Rattle.qtl_truth.specs.declared.event.Event.{Event as TheEvent};
 ghost use Rattle.monitor_run.specs.Answer.{HasFaultCause};
 ghost use Rattle.monitor_run.specs.Files.{IsReadingEnd};
@@ -129,6 +129,15 @@ fn are_texts(texts: &[Text])
     }
 }
 
+/// A law: an event's name and arguments are texts, and its time has 64 bits.
+fn is_event(event: &Event)
+    ensures { IsEvent event.now }
+{
+    are_bytes(event.name.bytes());
+    are_texts(event.args.as_slice());
+    let _time = event.time;
+}
+
 /// Judges the next event, and writes its violations. After an error the judge takes no event more.
 pub fn judge_event<W: Sink, L: Ledger>(
     judge: &mut Judge,
@@ -149,7 +158,7 @@ pub fn judge_event<W: Sink, L: Ledger>(
     ensures out_later { W.faults out.old ≤ W.faults out.new }
     ensures cost { IsLarge judge.old.monitor.shelf → steps.new ≤ steps.old + step_bound judge.old.monitor }
 {
-    are_texts(event.args.as_slice());
+    is_event(event);
     match judge.monitor.step(event, steps) {
         Ok(()) => {}
         Err(end) => return Err(stop(judge.events + 1, end)),

@@ -1,45 +1,54 @@
 -- What the parts of serving one variable do.
-use Rattle.std.specs.Prelude.{◌≡◌, ℕ, ◌-◌, ◌^◌, ◌<◌, ◌≤◌, List, [], ◌∷◌, Option, None, Some}
+use Rattle.std.specs.Prelude.{◌≡◌, ℕ, ◌+◌, ◌-◌, ◌^◌, ◌<◌, ◌≤◌, List, [], ◌∷◌, ◌++◌, Option, None, Some, unwrap_or, slice_index_or}
 use Rattle.qtl_syntax.specs.Tree.{Text}
+use Rattle.subformulas.specs.declared.need_list.Need.{Need}
 use Rattle.value_codes.specs.Pairs.{Pairs, code_of, IsPaired, IsLeastFree, Adds}
-use Rattle.monitor_step.specs.declared.codes.CodesEnd.{CodesEnd}
-use Rattle.monitor_step.specs.declared.codes.CodesEnd.TheVariants as codes
-use Rattle.monitor_step.specs.declared.codes.ServeEnd.{ServeEnd}
-use Rattle.monitor_step.specs.declared.codes.ServeEnd.TheVariants as serve
-use Rattle.monitor_step.specs.Books.{Gives, SameCodes, without_code}
+use Rattle.monitor_model.specs.Books.{Gives, without_code}
+use Rattle.monitor_model.specs.State.{SameCodes}
+use Rattle.monitor_step.specs.declared.serve.ServeEnd.{ServeEnd}
+use Rattle.monitor_step.specs.declared.serve.ServeEnd.TheVariants as serve
 
--- a code in front of others, where there is one
-abbrev pub code_before : Option ℕ → List ℕ → List ℕ
-code_before None codes = codes
-code_before (Some c) codes = c ∷ codes
+-- the texts of entries, whatever their variables
+abbrev pub own_texts : (args : List Text) → List Need → List Text
+own_texts args [] = []
+own_texts args (n ∷ ns) = slice_index_or args n.arg [] ∷ own_texts args ns
 
--- the codes of the texts that have one
-abbrev pub codes_in : Pairs → List Text → List ℕ
-codes_in book [] = []
-codes_in book (t ∷ ts) = code_before (code_of book t) (codes_in book ts)
+-- stands for the code of a text that has none: no code is as great
+abbrev pub no_code : ℕ
+no_code = 4294967295
 
--- so many codes are wanted, and there are fewer
-abbrev pub TakesTooMany : (bits wanted : ℕ) → CodesEnd → Type 0
-TakesTooMany bits wanted (codes.CodesFull need) = (need ≡ wanted) × (2 ^ bits ≤ wanted)
-TakesTooMany bits wanted codes.NoMemory = ⊥
+-- the codes of texts, with a mark for each that has none
+abbrev pub marked : Pairs → List Text → List ℕ
+marked book [] = []
+marked book (t ∷ ts) = unwrap_or (code_of book t) no_code ∷ marked book ts
 
--- a text without a code takes the least free one
-abbrev pub Takes : (bits : ℕ) → Text → (before after : Pairs) → Type 0
-Takes bits t before after = (c : ℕ) × IsLeastFree before c × (c < 2 ^ bits - 1) × Adds before t c after
+-- each text has a code, and these are they
+abbrev pub HaveCodes : Pairs → List Text → List ℕ → Type 0
+HaveCodes book [] cs = cs ≡ []
+HaveCodes book (t ∷ ts) cs =
+    (c : ℕ) × (rest : List ℕ) × (cs ≡ c ∷ rest) × (code_of book t ≡ Some c) × HaveCodes book ts rest
 
--- a text that has a code changes nothing
-abbrev pub GivesTo : (bits : ℕ) → Text → (before after : Pairs) → Option ℕ → Type 0
-GivesTo bits t before after None = Takes bits t before after
-GivesTo bits t before after (Some c) = after ≡ before
+-- the codes of texts come behind others
+pub record AddsCodes (book : Pairs) (ts : List Text) (old new : List ℕ) : Type 0 where
+  pub added : List ℕ
+  pub behind : new ≡ old ++ added
+  pub codes : HaveCodes book ts added
 
-abbrev pub GivesOne : (bits : ℕ) → Text → (before after : Pairs) → Type 0
-GivesOne bits t before after = GivesTo bits t before after (code_of before t)
+-- for this variable so many codes are wanted, and there are fewer
+abbrev pub TakesTooMany : (bits variable wanted : ℕ) → ServeEnd → Type 0
+TakesTooMany bits variable wanted (serve.CodesFull x need) =
+    (x ≡ variable) × (need ≡ wanted) × (2 ^ bits ≤ wanted)
+TakesTooMany bits variable wanted serve.NoMemory = ⊥
 
--- of each book of the definition with the same codes as before, the texts without a code make one with the same codes as after
+-- a text without a code takes this one, the least that is free
+pub record Takes (bits : ℕ) (t : Text) (c : ℕ) (before after : Pairs) : Type 0 where
+  pub least : IsLeastFree before c
+  pub below : c < 2 ^ bits - 1
+  pub adds : Adds before t c after
+
+-- of each book with the same codes as before, the texts without a code make one with the same codes as
+-- after
 abbrev pub GivesAll : (bits : ℕ) → List Text → (before after : Pairs) → Type 0
-GivesAll bits ts before after = (book : Pairs) → IsPaired book → SameCodes before book → (next : Pairs) × Gives bits (without_code before ts) book next × SameCodes after next
-
--- the end of an event at a variable that could not be served
-abbrev pub end_at : ℕ → CodesEnd → ServeEnd
-end_at x (codes.CodesFull need) = serve.CodesFull x need
-end_at x codes.NoMemory = serve.NoMemory
+GivesAll bits ts before after =
+    (book : Pairs) → IsPaired book → SameCodes before book →
+    (next : Pairs) × Gives bits (without_code before ts) book next × SameCodes after next

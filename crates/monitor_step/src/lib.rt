@@ -1,19 +1,20 @@
 //! The step of the monitor: books of codes, drawn trees, and one event at a time.
 #![tactic(auto)]
 
-mod atom_row;
-mod codes;
 mod event_rows;
-pub mod laws;
+mod frame;
+mod lists;
 mod monitor;
+mod remember;
+mod serve;
 mod subformula_rows;
 
 pub use monitor::{Monitor, Sizes, StepEnd};
 
 #[cfg(test)]
-mod codes_tests;
-#[cfg(test)]
 mod compared_tests;
+#[cfg(test)]
+mod serve_tests;
 #[cfg(test)]
 mod slow_truth;
 #[cfg(test)]

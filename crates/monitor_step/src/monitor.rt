@@ -1,37 +1,37 @@
-//! The monitor over diagrams.
+//! The monitor over diagrams: an event is bound, its texts get codes, its rows are made, and what is remembered is put in place.
 
-ghost use Rattle.std.specs.Prelude.{◌≡◌, ◌+◌, ◌-◌, ◌<◌, ◌≤◌, ◌^◌, ◌*◌, ◌++◌, ◌↔◌, ℕ, List, [], length, map, take, drop, true, false, IfOk, OnOk, IsErrOf, IsTrue, Some, slice_get, slice_index_or, is_ok, IsOk, None, ◌≢◌};
+ghost use Rattle.std.specs.Prelude.{◌≡◌, ◌≢◌, ℕ, ◌+◌, ◌-◌, ◌*◌, ◌<◌, ◌≤◌, ◌^◌, ◌++◌, ◌↔◌, List, [], ◌∷◌, length, map, take, drop, true, false, IfOk, IfSome, OnOk, IsErrOf, IsOk, IsTrue, Some, None, slice_get, is_ok};
 ghost use Rattle.std.specs.Option.{option_map};
 ghost use Rattle.std.specs.List.{AllByRecursion};
 ghost use Rattle.qtl_syntax.specs.Tree.{Text as TheText};
+ghost use Rattle.qtl_truth.specs.Truth.{IsLog};
 ghost use Rattle.qtl_truth.specs.declared.event.Event.{Event as TheEvent};
 ghost use Rattle.wellformed.specs.CoreTruth.{TrueCore};
-ghost use Rattle.node_tree.specs.Tree.{Zero};
-ghost use Rattle.node_table.specs.Table.{tree_of, IsValid, KeepsTrees};
-ghost use Rattle.node_table.specs.Collects.{AllValid};
-ghost use Rattle.value_codes.specs.Pairs.{code_of, IsBook};
-ghost use Rattle.subformulas.specs.Memory.{Has, IsTemporal};
-ghost use Rattle.subformulas.specs.Needs.{need};
+ghost use Rattle.node_table.specs.Table.{tree_of, IsValid};
+ghost use Rattle.value_codes.specs.Pairs.{IsBook};
+ghost use Rattle.subformulas.specs.Memory.{IsTemporal};
 ghost use Rattle.subformulas.specs.Unfolded.{formula_at};
 ghost use Rattle.bdd_ops.specs.Shelf.{IsLarge};
-ghost use Rattle.monitor_step.specs.Answers.{temporal_count};
-ghost use Rattle.monitor_step.specs.Stands.{AreTexts, first_memory};
-ghost use Rattle.monitor_step.specs.Monitor.{IsUntimed, MonitorStands, StepAnswers, AreCoded, HasSmallAtoms, step_bound, variables_of, now_of, memory_of, remembered_of, verdict_at};
-ghost use Rattle.monitor_step.specs.Serving.{pairs_at};
-ghost use Rattle.monitor_step.specs.Steps.{AnswersServing};
-ghost use Rattle.monitor_step.specs.Remembers.{first_memories, source_of, Remembers};
+ghost use Rattle.monitor_model.specs.Reading.{Reads, Answers};
+ghost use Rattle.monitor_model.specs.Shape.{oldest, HasMemoryShape, HasOwnLevels, ReadsAlike};
+ghost use Rattle.monitor_model.specs.State.{Stands, memory_of, now_of, pairs_in, setting_of, verdict_at};
+ghost use Rattle.monitor_model.specs.Ends.{time_since};
+ghost use Rattle.monitor_step.specs.Monitor.{IsUntimed, MatchEnd, HasCodesFor, HasSmallAtoms, step_bound, variables_of};
 ghost use Rattle.monitor_step.specs.declared.monitor.StepEnd.TheVariants.{NoMemory as TheNoMemory};
 
-use crate::codes::{ServeEnd, serve_all};
-use crate::event_rows::{RowsEnd, event_rows, is_temporal};
-use bdd_ops::{BlockCode, Store};
+use crate::event_rows::{NodesFull, event_rows};
+use crate::frame::Frame;
+use crate::lists::{Lists, code_event, open_lists};
+use crate::remember::{first_handles, remember, temporal_before};
+use crate::serve::ServeEnd;
+use bdd_ops::Store;
 use mon_base::{NoMemory, Steps};
 use node_table::{Block, Handle, NodeTable};
 use qtl_truth::Event;
 use std::alloc::Global;
 use std::marker::Model;
 use std::sync::ledger::Ledger;
-use subformulas::{Kind, NeedList, Plan, Sub, needs};
+use subformulas::Plan;
 use value_codes::Book;
 
 /// How large a monitor is: the bits of a code, from 1 to 20; the nodes of its table, from 2 to 4,194,304; and the entries of its
@@ -66,7 +66,7 @@ impl From<NoMemory> for StepEnd {
 
 impl From<ServeEnd> for StepEnd {
     ghost use Rattle.std.specs.Prelude.{◌≡◌};
-    ghost use Rattle.monitor_step.specs.Steps.{serve_end};
+    ghost use Rattle.monitor_step.specs.Stages.{serve_end};
 
     ghost from_gives = { λ r e. e ≡ serve_end r };
 
@@ -78,16 +78,16 @@ impl From<ServeEnd> for StepEnd {
     }
 }
 
-impl From<RowsEnd> for StepEnd {
+impl From<NodesFull> for StepEnd {
     ghost use Rattle.std.specs.Prelude.{◌≡◌};
-    ghost use Rattle.monitor_step.specs.Steps.{rows_end};
+    ghost use Rattle.monitor_step.specs.Stages.{rows_end};
 
     ghost from_gives = { λ r e. e ≡ rows_end r };
 
-    fn from(end: RowsEnd) -> Self {
-        match end {
-            RowsEnd::NodesFull { subformula, row } => StepEnd::NodesFull { subformula, row },
-            RowsEnd::NoMemory => StepEnd::NoMemory,
+    fn from(full: NodesFull) -> Self {
+        StepEnd::NodesFull {
+            subformula: full.subformula,
+            row: full.row,
         }
     }
 }
@@ -102,13 +102,12 @@ pub struct Monitor {
     store: Store,
     /// By number of variable.
     books: Vec<Book>,
-    /// First those of the remembered trees, then those of the trees at the last event.
+    /// Those of the remembered trees, of the trees that are remembered next, of the trees at the last event, and of the letters
+    /// of a row.
     handles: Vec<Handle>,
     /// How many remembered trees there are.
     remembered: usize,
-    needs: NeedList,
-    needed_codes: Vec<u32>,
-    codes: Vec<BlockCode>,
+    lists: Lists,
     /// False from the first event on that could not be judged.
     live: bool,
     events: u64,
@@ -116,35 +115,17 @@ pub struct Monitor {
 }
 
 impl Model for Monitor {
-    ghost use Rattle.std.specs.Prelude.{◌≡◌, ◌*◌, ◌≤◌, length, true, vec_capacity};
-    ghost use Rattle.std.specs.List.{AllByRecursion};
-    ghost use Rattle.value_codes.specs.Pairs.{IsBook};
-    ghost use Rattle.monitor_step.specs.Answers.{temporal_count};
-    ghost use Rattle.monitor_step.specs.Monitor.{State, IsSound};
+    ghost use Rattle.std.specs.Prelude.{◌≡◌, true, nat_lt};
+    ghost use Rattle.monitor_model.specs.State.{State, IsMonitor, IsLive, kept};
+    ghost use Rattle.monitor_step.specs.Monitor.{IsUntimed};
+    ghost use Rattle.monitor_step.specs.Stages.{HaveRoom};
 
     ghost Value = { State };
 
-    ghost view = { λ m. record { plan = m.plan; bits = m.bits; shelf = m.store; books = m.books.items; handles = m.handles.items; live = m.live; events = m.events; last_time = m.last_time } };
+    ghost view = { λ m. record { plan = m.plan; bits = m.bits; shelf = m.store; books = m.books.items; handles = m.handles.items; live = m.live; has_now = nat_lt 0 m.events; events = m.events; last_time = m.last_time } };
 
-    ghost invariant = { λ m. IsSound (record { plan = m.plan; bits = m.bits; shelf = m.store; books = m.books.items; handles = m.handles.items; live = m.live; events = m.events; last_time = m.last_time })
-        × (m.remembered ≡ temporal_count m.plan.subs)
-        × (m.live ≡ true → AllByRecursion IsBook m.books.items)
-        × (length m.plan.variables * length m.plan.subs ≤ m.needs.room)
-        × (length m.plan.variables ≤ vec_capacity m.codes) };
-}
-
-/// How many of the first n subformulas are temporal.
-fn temporal_before(plan: &Plan, n: u32) -> usize
-    requires { n ≤ length plan.now.subs }
-    ensures { result ≡ temporal_count (take n plan.now.subs) }
-{
-    let mut count = 0;
-    for k in 0..n {
-        if is_temporal(&plan.sub(k + 1).kind) {
-            count += 1;
-        }
-    }
-    count
+    ghost invariant = { λ m. let state : State = record { plan = m.plan; bits = m.bits; shelf = m.store; books = m.books.items; handles = m.handles.items; live = m.live; has_now = nat_lt 0 m.events; events = m.events; last_time = m.last_time } in
+        IsMonitor state × IsUntimed m.plan × (m.remembered ≡ kept state) × (m.live ≡ true → IsLive state) × HaveRoom m.plan m.lists };
 }
 
 /// Empty books for so many variables.
@@ -163,117 +144,15 @@ fn open_books(alloc: Global, variables: usize, bits: u8) -> Result<Vec<Book>, No
     Ok(books)
 }
 
-/// The handle of the tree that a temporal subformula of this kind remembers before the first event.
-fn first_handle(kind: &Kind, table: &NodeTable) -> Handle
-    ensures valid { IsValid table.now result }
-    ensures tree { tree_of table.now result ≡ first_memory kind.now }
+/// The time since the event before; 0 at the first one.
+fn time_since(events: u64, last_time: u64, event: &Event) -> u64
+    requires { last_time ≤ event.now.time }
+    ensures { result ≡ time_since events last_time event.now }
 {
-    match kind {
-        Kind::Always => table.one(),
-        _ => table.zero(),
+    if events == 0 {
+        return 0;
     }
-}
-
-/// The handles of the trees that are remembered before the first event, with room for one more of each subformula.
-fn first_remembered(alloc: Global, plan: &Plan, table: &NodeTable) -> Result<Vec<Handle>, NoMemory>
-    ensures trees { IfOk result (λ handles. map (tree_of table.now) handles.items ≡ first_memories plan.now.subs) }
-    ensures valid { IfOk result (λ handles. AllValid table.now handles.items) }
-{
-    let count = plan.count();
-    let mut handles = Vec::with_capacity(alloc, 2 * count as usize)?;
-    for k in 0..count {
-        let kind = &plan.sub(k + 1).kind;
-        if is_temporal(kind) {
-            handles.push(first_handle(kind, table))?;
-        }
-    }
-    Ok(handles)
-}
-
-/// A handle for each subformula behind those of the remembered trees, before the first event.
-fn add_zeros(plan: &Plan, table: &NodeTable, handles: &mut Vec<Handle>) -> Result<(), NoMemory>
-    requires { AllValid table.now handles.old.items }
-    ensures count { OnOk result (length handles.new.items ≡ length handles.old.items + length plan.now.subs) }
-    ensures kept { OnOk result (take (length handles.old.items) handles.new.items ≡ handles.old.items) }
-    ensures valid { OnOk result (AllValid table.now handles.new.items) }
-{
-    for _ in 0..plan.count() {
-        handles.push(table.zero())?;
-    }
-    Ok(())
-}
-
-/// Serves the variables of an event: each text that it gives to one has a code then.
-fn serve_event<L: Ledger>(
-    alloc: Global,
-    plan: &Plan,
-    store: &mut Store,
-    remembered: &[Handle],
-    bits: u8,
-    event: &Event,
-    list: &mut NeedList,
-    books: &mut [Book],
-    needed_codes: &mut Vec<u32>,
-    steps: &mut Steps<L>,
-) -> Result<(), StepEnd>
-    requires untimed { IsUntimed plan.now }
-    requires few_bits { bits ≤ 20 }
-    requires valid { AllValid store.old.table remembered.now }
-    requires count { length books.old ≡ length plan.now.variables }
-    requires bits { AllByRecursion (λ b. b.bits ≡ bits) books.old }
-    ensures served { AnswersServing bits plan.now.subs event.now (map (tree_of store.old.table) remembered.now) books.old books.new result }
-    ensures no_memory { length plan.now.variables * length plan.now.subs ≤ list.old.room → HasSmallAtoms plan.now →
-        ((x : ℕ) (t : TheText) → x < length plan.now.variables → Has (need plan.now.subs x event.now) t → code_of (pairs_at books.old x) t ≢ None) → IsOk result }
-    ensures needs { list.old.room ≤ list.new.room }
-    ensures count { length books.new ≡ length books.old }
-    ensures bits { AllByRecursion (λ b. b.bits ≡ bits) books.new }
-    ensures sound { OnOk result (AllByRecursion IsBook books.new) }
-    ensures room { store.new.table.room ≡ store.old.table.room }
-    ensures nodes { store.new.table.nodes ≡ store.old.table.nodes }
-    ensures kept { KeepsTrees store.old.table store.new.table }
-    ensures entries { store.new.memo.entries ≡ store.old.memo.entries }
-    ensures cost { steps.new ≤ steps.old + length books.old * ((2 ^ bits - 1) * ((store.old.table.room + 2) * (2 * bits + 1))) }
-    ensures idle { remembered.now ≡ [] → steps.new ≡ steps.old }
-{
-    let _count = plan.count();
-    needs(alloc, plan, event, list)?;
-    serve_all(
-        store,
-        remembered,
-        bits,
-        list.entries(),
-        event,
-        books,
-        needed_codes,
-        steps,
-    )?;
-    Ok(())
-}
-
-/// The number of the subformula whose tree temporal subformula k remembers: its child for @, else itself.
-fn source_of(sub: &Sub, k: u32) -> u32
-    ensures { result ≡ source_of sub.now.kind sub.now.left k }
-{
-    match sub.kind {
-        Kind::Prev => sub.left,
-        _ => k,
-    }
-}
-
-/// Puts the handle of the tree that each temporal subformula remembers after an event among the first handles.
-fn remember(plan: &Plan, handles: &mut Vec<Handle>, remembered: usize)
-    requires remembered { remembered ≡ temporal_count plan.now.subs }
-    requires count { length handles.old.items ≡ remembered + length plan.now.subs }
-    ensures { Remembers plan.now.subs handles.old.items handles.new.items }
-{
-    let mut next = 0;
-    for k in 0..plan.count() {
-        let sub = plan.sub(k + 1);
-        if is_temporal(&sub.kind) {
-            handles[next] = handles[remembered + source_of(sub, k + 1) as usize - 1];
-            next += 1;
-        }
-    }
+    event.time - last_time
 }
 
 impl Monitor {
@@ -291,24 +170,21 @@ impl Monitor {
         ensures room { IfOk result (λ m. m.shelf.table.room ≡ sizes.nodes) }
         ensures entries { IfOk result (λ m. m.shelf.memo.entries ≡ sizes.cache) }
         ensures time { IfOk result (λ m. m.last_time ≡ 0) }
-        ensures stands { IfOk result (λ m. (log : List TheEvent) → MonitorStands m log 0) }
+        ensures stands { IfOk result (λ m. Stands m []) }
+        ensures judged { IfOk result (λ m. m.has_now ≡ false) }
     {
         let store = Store::open(alloc, sizes.nodes, sizes.cache)?;
         let variables = plan.variables().len();
         let books = open_books(alloc, variables, sizes.bits)?;
-        let mut handles = first_remembered(alloc, &plan, store.table())?;
-        let remembered = handles.len();
-        add_zeros(&plan, store.table(), &mut handles)?;
+        let handles = first_handles(alloc, &plan, store.table())?;
         Ok(Monitor {
             alloc,
             bits: sizes.bits,
             store,
             books,
             handles,
-            remembered,
-            needs: NeedList::open(alloc, &plan)?,
-            needed_codes: Vec::new(alloc),
-            codes: Vec::with_capacity(alloc, variables)?,
+            remembered: temporal_before(&plan, plan.count()),
+            lists: open_lists(alloc, &plan)?,
             plan,
             live: true,
             events: 0,
@@ -328,38 +204,44 @@ impl Monitor {
         ensures live { self.new.live ≡ is_ok result }
         ensures events { OnOk result (self.new.events ≡ self.old.events + 1) }
         ensures time { OnOk result (self.new.last_time ≡ event.now.time) }
-        ensures answers { (log : List TheEvent) (i : ℕ) → MonitorStands self.old log i → slice_get log i ≡ Some event.now → AreTexts log →
-            StepAnswers self.old self.new log i event.now result }
-        ensures no_memory { HasSmallAtoms self.old.plan → AreCoded self.old event.now → ¬ IsErrOf result TheNoMemory }
+        ensures judged { OnOk result (self.new.has_now ≡ true) }
+        ensures reads { MatchEnd result (Reads self.old event.now self.new) }
+        ensures answers { (log : List TheEvent) → IsLog (log ++ event.now ∷ []) → Stands self.old log →
+            MatchEnd result (Answers self.old event.now self.new log) }
+        ensures no_memory { HasSmallAtoms self.old.plan → HasCodesFor self.old event.now → ¬ IsErrOf result TheNoMemory }
         ensures cost { IsLarge self.old.shelf → steps.new ≤ steps.old + step_bound self.old }
     {
         let _nodes = self.store.live();
+        let delta = time_since(self.events, self.last_time, event);
         self.live = false;
-        serve_event(
+        code_event(
             self.alloc,
             &self.plan,
             &mut self.store,
             &self.handles[..self.remembered],
             self.bits,
             event,
-            &mut self.needs,
+            &mut self.lists,
             &mut self.books,
-            &mut self.needed_codes,
             steps,
         )?;
+        let frame = Frame {
+            event,
+            books: &self.books,
+            matched: self.lists.needs.matched(),
+            coded: &self.lists.coded,
+            bits: self.bits,
+            delta,
+        };
         event_rows(
-            self.alloc,
             &self.plan,
+            &frame,
             &mut self.store,
             &mut self.handles,
             self.remembered,
-            event,
-            &self.books,
-            self.bits,
-            &mut self.codes,
             steps,
         )?;
-        remember(&self.plan, &mut self.handles, self.remembered);
+        remember(&mut self.handles, self.remembered);
         self.events += 1;
         self.last_time = event.time;
         self.live = true;
@@ -372,9 +254,9 @@ impl Monitor {
         requires some { 1 ≤ self.now.events }
         requires p { p < length self.now.plan.props }
         ensures is { option_map (λ q. verdict_at self.now q.root) (slice_get self.now.plan.props p) ≡ Some result }
-        ensures truth { (log : List TheEvent) (i root : ℕ) (nu : List TheText) → MonitorStands self.now log i →
+        ensures truth { (log : List TheEvent) (root : ℕ) (nu : List TheText) → Stands self.now log →
             option_map (λ q. q.root) (slice_get self.now.plan.props p) ≡ Some root → variables_of self.now ≤ length nu →
-            IsTrue result ↔ TrueCore log nu (formula_at self.now.plan.subs root) i }
+            IsTrue result ↔ TrueCore log nu (formula_at self.now.plan.subs root) (length log) }
     {
         let _nodes = self.store.live();
         self.now(self.plan.root(p)) == self.store.table().one()
@@ -430,8 +312,10 @@ impl Monitor {
         requires to { k ≤ length self.now.plan.subs }
         ensures valid { IsValid self.now.shelf.table result }
         ensures tree { tree_of self.now.shelf.table result ≡ now_of self.now k }
+        ensures shape { self.now.has_now ≡ true → HasOwnLevels (setting_of self.now) k (tree_of self.now.shelf.table result) }
+        ensures alike { self.now.has_now ≡ true → ReadsAlike (setting_of self.now) (pairs_in self.now) (tree_of self.now.shelf.table result) }
     {
-        self.handles[self.remembered + k as usize - 1]
+        self.handles[2 * self.remembered + k as usize - 1]
     }
 
     /// The handle of the tree that temporal subformula k, counted from 1, remembers.
@@ -440,6 +324,8 @@ impl Monitor {
         requires temporal { IsTemporal self.now.plan.subs k }
         ensures valid { IsValid self.now.shelf.table result }
         ensures tree { tree_of self.now.shelf.table result ≡ memory_of self.now k }
+        ensures shape { IfSome (slice_get self.now.plan.subs (k - 1)) (λ u. HasMemoryShape (setting_of self.now) k (oldest u.kind) (tree_of self.now.shelf.table result)) }
+        ensures alike { ReadsAlike (setting_of self.now) (pairs_in self.now) (tree_of self.now.shelf.table result) }
     {
         self.handles[temporal_before(&self.plan, k - 1)]
     }

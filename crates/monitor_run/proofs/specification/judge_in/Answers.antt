@@ -49,5 +49,5 @@ returns-in-Ok-open-clause-ok c =
 
 pub returns-in-Ok-open-clause-ready : goal.returns-in-Ok-open-clause-ready
 returns-in-Ok-open-clause-ready c =
-    let stands = c.in-Ok-open.ensures.stands [] in
+    let stands = c.in-Ok-open.ensures.stands in
     record { live = stands.live; events = stands.events; time = c.in-Ok-open.ensures.time; fewer = omega arith }

@@ -1,6 +1,6 @@
 use Rattle.std.proofs.Common.{◌≡◌, ◌∷◌, [], length-append, arith}
 use Rattle.value_codes.specs.Pairs.{IsBook, Contents}
-use Rattle.monitor_step.proofs.ServingAll.{all_more}
+use Rattle.monitor_step.proofs.Serving.All.{all_more}
 use Rattle.monitor_step.proofs.monitor.open_books.Goals as goal
 
 pub loop-preserved : goal.loop-preserved

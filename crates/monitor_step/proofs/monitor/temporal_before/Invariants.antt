@@ -1,6 +1,0 @@
-use Rattle.std.proofs.Common.{◌≡◌, take}
-use Rattle.monitor_step.specs.Answers.{temporal_count}
-use Rattle.monitor_step.proofs.monitor.temporal_before.Given as goal
-
-abbrev pub invariant-loop-k : goal.invariant-loop-k
-invariant-loop-k l = l.count ≡ temporal_count (take l.k l.plan.subs)
