@@ -10,7 +10,7 @@ use Rattle.log_reader.specs.declared.fault.LogFault.{LogFault}
 use Rattle.log_reader.proofs.EndLemmas.{now, nothing_later}
 
 -- a new reader
-pub fresh : (timed : Bool) → Stands [] (record { timed = timed; ended = false; given = 0; fault = None; is_begun = false; length = 0; texts = []; field = []; place = Before; rest = [] })
+pub fresh : (timed : Bool) → Stands [] (record { timed = timed; ended = false; given = 0; last_time = 0; fault = None; is_begun = false; length = 0; texts = []; field = []; place = Before; rest = [] })
 fresh timed = record {
   line = [];
   fits = record { texts = refl; field = refl; place = refl; length = refl; right = refl; first = λ e. refl };
@@ -29,7 +29,7 @@ module _ (bytes piece : Text) (r : Reading) (on : r.ended ≡ false) where
     coming = λ more ended later.
         ap (λ l. left r.given (cut l r.timed ended)) (append_assoc bytes piece more)
         ∙ g.coming (piece ++ more) ended (later_too more ended)
-        ∙ ap (λ l. cut_in r.timed ended (r.given + 1) 0 (lines_from g.line (unmarked r.is_begun l))) (sym (append_assoc r.rest piece more));
+        ∙ ap (λ l. cut_in r.timed ended (r.given + 1) r.last_time (lines_from g.line (unmarked r.is_begun l))) (sym (append_assoc r.rest piece more));
   }
 
   fed_fails : (f : LogFault) → Fails bytes r f → Fails (bytes ++ piece) (record r { rest = r.rest ++ piece }) f

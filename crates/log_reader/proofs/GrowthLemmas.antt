@@ -58,7 +58,7 @@ grows bytes more timed ended = by_mark (mark_length (mark_of bytes) false) refl 
   where
     by_mark : (o : Option ℕ) → mark_length (mark_of bytes) false ≡ o → Unmarks bytes false o → GoesOn (cut bytes timed false) (cut (bytes ++ more) timed ended)
     by_mark None e u =
-        none_yet (cut bytes timed false).events (cut bytes timed false).end (cut (bytes ++ more) timed ended) (begun_waits timed 1 bytes (none_begun (mark_of bytes) false e).0)
+        none_yet (cut bytes timed false).events (cut bytes timed false).end (cut (bytes ++ more) timed ended) (begun_waits timed 1 0 bytes (none_begun (mark_of bytes) false e).0)
     by_mark (Some n) e u =
         let here : without_mark bytes ≡ drop n bytes = ap without_mark (sym (append-nil bytes)) ∙ u.1 [] true tt ∙ append-nil (drop n bytes) in
         rw (here, u.1 more ended tt) (grows_from timed ended 1 0 [] (drop n bytes) more)

@@ -8,4 +8,6 @@ pub mod EndLemmas
 pub mod FeedLemmas
 pub mod StateLemmas
 pub mod MarkLemmas
+pub mod DigitLemmas
+pub mod TimeLemmas
 pub mod GrowthLemmas

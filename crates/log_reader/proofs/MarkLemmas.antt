@@ -80,26 +80,26 @@ is_byte : (x y : ℕ) → (x == y) ≡ true → x ≡ y
 is_byte x y e = grind (arith, nat_tests)
 
 -- the front of a mark is a line that waits
-pub begun_waits : (timed : Bool) (number : ℕ) (bytes : Text) → mark_of bytes ≡ Begun → answer (cut_in timed false number 0 (lines_from [] (without_mark bytes))) ≡ Ok None
-begun_waits timed number [] e = refl
-begun_waits timed number (a ∷ bytes) e = by_first bytes (a == 239) refl e
+pub begun_waits : (timed : Bool) (number before : ℕ) (bytes : Text) → mark_of bytes ≡ Begun → answer (cut_in timed false number before (lines_from [] (without_mark bytes))) ≡ Ok None
+begun_waits timed number before [] e = refl
+begun_waits timed number before (a ∷ bytes) e = by_first bytes (a == 239) refl e
   where
-    one : (x : ℕ) → x ≡ 239 → answer (cut_in timed false number 0 (lines_from [] (without_mark (x ∷ [])))) ≡ Ok None
+    one : (x : ℕ) → x ≡ 239 → answer (cut_in timed false number before (lines_from [] (without_mark (x ∷ [])))) ≡ Ok None
     one x f = rw f refl
 
-    two : (x y : ℕ) → x ≡ 239 → y ≡ 187 → answer (cut_in timed false number 0 (lines_from [] (without_mark (x ∷ y ∷ [])))) ≡ Ok None
+    two : (x y : ℕ) → x ≡ 239 → y ≡ 187 → answer (cut_in timed false number before (lines_from [] (without_mark (x ∷ y ∷ [])))) ≡ Ok None
     two x y f g = rw (f, g) refl
 
-    by_third : (b c : ℕ) (bytes : Text) (x : Bool) → (if x then Whole else Missing) ≡ Begun → answer (cut_in timed false number 0 (lines_from [] (without_mark (a ∷ b ∷ c ∷ bytes)))) ≡ Ok None
+    by_third : (b c : ℕ) (bytes : Text) (x : Bool) → (if x then Whole else Missing) ≡ Begun → answer (cut_in timed false number before (lines_from [] (without_mark (a ∷ b ∷ c ∷ bytes)))) ≡ Ok None
     by_third b c bytes true e = let h : Whole ≡ Begun = e in absurd (let never : ⊥ = cc in never)
     by_third b c bytes false e = let h : Missing ≡ Begun = e in absurd (let never : ⊥ = cc in never)
 
-    by_second : (b : ℕ) (bytes : Text) (y : Bool) → (a == 239) ≡ true → (b == 187) ≡ y → (if y then mark_behind_two bytes else Missing) ≡ Begun → answer (cut_in timed false number 0 (lines_from [] (without_mark (a ∷ b ∷ bytes)))) ≡ Ok None
+    by_second : (b : ℕ) (bytes : Text) (y : Bool) → (a == 239) ≡ true → (b == 187) ≡ y → (if y then mark_behind_two bytes else Missing) ≡ Begun → answer (cut_in timed false number before (lines_from [] (without_mark (a ∷ b ∷ bytes)))) ≡ Ok None
     by_second b [] true f g e = two a b (is_byte a 239 f) (is_byte b 187 g)
     by_second b (c ∷ bytes) true f g e = by_third b c bytes (c == 191) e
     by_second b bytes false f g e = let h : Missing ≡ Begun = e in absurd (let never : ⊥ = cc in never)
 
-    by_first : (bytes : Text) (x : Bool) → (a == 239) ≡ x → (if x then mark_behind_one bytes else Missing) ≡ Begun → answer (cut_in timed false number 0 (lines_from [] (without_mark (a ∷ bytes)))) ≡ Ok None
+    by_first : (bytes : Text) (x : Bool) → (a == 239) ≡ x → (if x then mark_behind_one bytes else Missing) ≡ Begun → answer (cut_in timed false number before (lines_from [] (without_mark (a ∷ bytes)))) ≡ Ok None
     by_first [] true f e = one a (is_byte a 239 f)
     by_first (b ∷ bytes) true f e = by_second b bytes (b == 187) f refl e
     by_first bytes false f e = let h : Missing ≡ Begun = e in absurd (let never : ⊥ = cc in never)
@@ -114,7 +114,7 @@ module _ (bytes : Text) (r : Reading) (g : Goes bytes r) (first : r.is_begun ≡
         fits = record { texts = g.fits.texts; field = g.fits.field; place = g.fits.place; length = g.fits.length; right = g.fits.right; first = λ x. g.fits.first first };
         coming = λ more ended later.
             g.coming more ended later
-            ∙ ap (λ l. cut_in r.timed ended (r.given + 1) 0 (lines_from g.line l)) (ap (λ x. unmarked x (r.rest ++ more)) first ∙ u.1 more ended later);
+            ∙ ap (λ l. cut_in r.timed ended (r.given + 1) r.last_time (lines_from g.line l)) (ap (λ x. unmarked x (r.rest ++ more)) first ∙ u.1 more ended later);
       }
 
   -- the bytes may still become the mark
@@ -123,8 +123,8 @@ module _ (bytes : Text) (r : Reading) (g : Goes bytes r) (first : r.is_begun ≡
       let b = none_begun (mark_of r.rest) r.ended e in
       ap answer
       (now bytes r _ (g.coming [] r.ended (nothing_later r.ended))
-      ∙ ap (λ l. cut_in r.timed r.ended (r.given + 1) 0 (lines_from l (unmarked r.is_begun (r.rest ++ [])))) (g.fits.first first)
-      ∙ ap (λ x. cut_in r.timed r.ended (r.given + 1) 0 (lines_from [] (unmarked x (r.rest ++ [])))) first
-      ∙ ap (λ l. cut_in r.timed r.ended (r.given + 1) 0 (lines_from [] (without_mark l))) (append-nil r.rest)
-      ∙ ap (λ x. cut_in r.timed x (r.given + 1) 0 (lines_from [] (without_mark r.rest))) b.1)
-      ∙ begun_waits r.timed (r.given + 1) r.rest b.0
+      ∙ ap (λ l. cut_in r.timed r.ended (r.given + 1) r.last_time (lines_from l (unmarked r.is_begun (r.rest ++ [])))) (g.fits.first first)
+      ∙ ap (λ x. cut_in r.timed r.ended (r.given + 1) r.last_time (lines_from [] (unmarked x (r.rest ++ [])))) first
+      ∙ ap (λ l. cut_in r.timed r.ended (r.given + 1) r.last_time (lines_from [] (without_mark l))) (append-nil r.rest)
+      ∙ ap (λ x. cut_in r.timed x (r.given + 1) r.last_time (lines_from [] (without_mark r.rest))) b.1)
+      ∙ begun_waits r.timed (r.given + 1) r.last_time r.rest b.0

@@ -51,22 +51,22 @@ begun_still r e line f = let never : true ≡ false = sym e ∙ f in absurd (let
 module _ (bytes : Text) (r : Reading) (g : Goes bytes r) (b : ℕ) (rest : Text) (here : IsAt r b rest) where
   module _ (goes : ends_line g.line b ≡ false) where
     -- the records behind a byte that doesn't end the line
-    same_records : (r' : Reading) → r'.timed ≡ r.timed → r'.ended ≡ r.ended → r'.given ≡ r.given → r'.is_begun ≡ r.is_begun → r'.rest ≡ rest →
+    same_records : (r' : Reading) → r'.timed ≡ r.timed → r'.ended ≡ r.ended → r'.given ≡ r.given → r'.last_time ≡ r.last_time → r'.is_begun ≡ r.is_begun → r'.rest ≡ rest →
         (more : Text) (ended : Bool) → IsLater r'.ended more ended → left r'.given (cut (bytes ++ more) r'.timed ended) ≡ records_from r' (g.line ++ b ∷ []) more ended
-    same_records r' t d n s e more ended later =
-        rw (t, n, s, e)
+    same_records r' t d n l s e more ended later =
+        rw (t, n, l, s, e)
         (g.coming more ended (subst (λ x. IsLater x more ended) d later)
-        ∙ ap (λ l. cut_in r.timed ended (r.given + 1) 0 (lines_from g.line l)) (at_byte r b rest more here)
-        ∙ ap (cut_in r.timed ended (r.given + 1) 0) (line_goes g.line (rest ++ more) b goes)
-        ∙ ap (λ x. cut_in r.timed ended (r.given + 1) 0 (lines_from (g.line ++ b ∷ []) (unmarked x (rest ++ more)))) (sym here.0))
+        ∙ ap (λ l. cut_in r.timed ended (r.given + 1) r.last_time (lines_from g.line l)) (at_byte r b rest more here)
+        ∙ ap (cut_in r.timed ended (r.given + 1) r.last_time) (line_goes g.line (rest ++ more) b goes)
+        ∙ ap (λ x. cut_in r.timed ended (r.given + 1) r.last_time (lines_from (g.line ++ b ∷ []) (unmarked x (rest ++ more)))) (sym here.0))
 
     -- a fault at the byte
     pub fails : (fault : Fault) → fault_at g.line b ≡ Some fault → (more : Text) (ended : Bool) → IsLater r.ended more ended → left r.given (cut (bytes ++ more) r.timed ended) ≡ no_events (At (r.given + 1) fault)
     fails fault e more ended later =
         g.coming more ended later
-        ∙ ap (λ l. cut_in r.timed ended (r.given + 1) 0 (lines_from g.line l)) (at_byte r b rest more here)
-        ∙ ap (cut_in r.timed ended (r.given + 1) 0) (line_goes g.line (rest ++ more) b goes)
-        ∙ fault_ends r.timed ended (r.given + 1) 0 (g.line ++ b ∷ []) (rest ++ more) fault (fault_more g.line b g.fits.right ∙ e)
+        ∙ ap (λ l. cut_in r.timed ended (r.given + 1) r.last_time (lines_from g.line l)) (at_byte r b rest more here)
+        ∙ ap (cut_in r.timed ended (r.given + 1) r.last_time) (line_goes g.line (rest ++ more) b goes)
+        ∙ fault_ends r.timed ended (r.given + 1) r.last_time (g.line ++ b ∷ []) (rest ++ more) fault (fault_more g.line b g.fits.right ∙ e)
 
   -- a byte of the field
   module _ (inside : is_in_field r.place b ≡ true) (short : r.length < 65536) where
@@ -90,7 +90,7 @@ module _ (bytes : Text) (r : Reading) (g : Goes bytes r) (b : ℕ) (rest : Text)
         right = fault_more g.line b g.fits.right ∙ no_fault;
         first = begun_still r here.0 (g.line ++ b ∷ []);
       };
-      coming = same_records no_feed (record r { length = r.length + 1; field = r.field ++ b ∷ []; place = next_place r.place b; rest = rest }) refl refl refl refl refl;
+      coming = same_records no_feed (record r { length = r.length + 1; field = r.field ++ b ∷ []; place = next_place r.place b; rest = rest }) refl refl refl refl refl refl;
     }
 
   -- a comma outside quotes
@@ -123,7 +123,7 @@ module _ (bytes : Text) (r : Reading) (g : Goes bytes r) (b : ℕ) (rest : Text)
         right = fault_more g.line b g.fits.right ∙ no_fault_at;
         first = begun_still r here.0 (g.line ++ b ∷ []);
       };
-      coming = same_records no_feed_at (record r { length = r.length + 1; texts = r.texts ++ text_of r.field ∷ []; field = []; place = Before; rest = rest }) refl refl refl refl refl;
+      coming = same_records no_feed_at (record r { length = r.length + 1; texts = r.texts ++ text_of r.field ∷ []; field = []; place = Before; rest = rest }) refl refl refl refl refl refl;
     }
       where
         is_few : nat_le 63 (length (finished g.line)) ≡ false

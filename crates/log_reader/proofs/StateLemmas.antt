@@ -9,7 +9,7 @@ use Rattle.log_reader.specs.Lines.{ends_line}
 use Rattle.log_reader.specs.Faults as fault
 use Rattle.log_reader.specs.Records.{cut, no_events, At}
 use Rattle.log_reader.specs.Places.{is_inside, is_in_field, place_of}
-use Rattle.log_reader.specs.Standing.{Reading, numbered, IsLater, left, answer, Goes, Fails, StandsIn, all_texts, behind_line, is_blank_so_far, given_next, lasting, IsNext, Sought, Stands}
+use Rattle.log_reader.specs.Standing.{Reading, numbered, IsLater, left, answer, Goes, Fails, StandsIn, all_texts, behind_line, behind_event, is_blank_so_far, given_next, lasting, IsNext, Sought, Stands}
 use Rattle.log_reader.specs.State.{span, reading_of, IsState, IsSame, behind_field, IsMade, IsNotMade, Turned}
 use Rattle.log_reader.specs.declared.place.Place.{Place}
 use Rattle.log_reader.specs.declared.place.Place.TheVariants.{Before, Plain, Inside, AtQuote, Behind}
@@ -25,9 +25,9 @@ use Rattle.log_reader.proofs.StandLemmas.{IsAt, agree, fails, goes_to_field, too
 use Rattle.log_reader.proofs.EndLemmas.{goes_behind_blank, feed_fails, feed_goes, feed_answers, waits, quote_open, no_more, last_fails, last_answers, last_goes}
 
 -- readings are the same where their parts are
-pub same_reading : (r t : Reading) → t.timed ≡ r.timed → t.ended ≡ r.ended → t.given ≡ r.given → t.fault ≡ r.fault → t.is_begun ≡ r.is_begun →
+pub same_reading : (r t : Reading) → t.timed ≡ r.timed → t.ended ≡ r.ended → t.given ≡ r.given → t.last_time ≡ r.last_time → t.fault ≡ r.fault → t.is_begun ≡ r.is_begun →
     t.length ≡ r.length → t.texts ≡ r.texts → t.field ≡ r.field → t.place ≡ r.place → t.rest ≡ r.rest → t ≡ r
-same_reading r t a b c d e f g h p q = λ i. record { timed = a i; ended = b i; given = c i; fault = d i; is_begun = e i; length = f i; texts = g i; field = h i; place = p i; rest = q i }
+same_reading r t a b c l d e f g h p q = λ i. record { timed = a i; ended = b i; given = c i; last_time = l i; fault = d i; is_begun = e i; length = f i; texts = g i; field = h i; place = p i; rest = q i }
 
 pub span_empty : (n : ℕ) (bytes : Text) → span n n bytes ≡ []
 span_empty n bytes = let z : n - n ≡ 0 = omega arith in ap (λ k. take k (drop n bytes)) z
@@ -50,21 +50,21 @@ fails_at bytes r t f named a b c e coming = record {
 }
 
 -- the field was ended
-pub field_behind : (s m : State) → IsState s → IsSame s m → m.seen ≡ s.seen → m.from ≡ s.from → m.before ≡ s.before → m.given ≡ s.given → m.texts ≡ all_texts (reading_of s) →
+pub field_behind : (s m : State) → IsState s → IsSame s m → m.seen ≡ s.seen → m.from ≡ s.from → m.before ≡ s.before → m.given ≡ s.given → m.last_time ≡ s.last_time → m.texts ≡ all_texts (reading_of s) →
     reading_of (record m { before = m.before + (m.seen - m.from + 1); seen = m.seen + 1; from = m.seen + 1; place = Before }) ≡ behind_field (reading_of s) (drop (s.seen + 1) s.held.items)
-field_behind s m sound same seen from before given texts =
+field_behind s m sound same seen from before given time texts =
     same_reading (behind_field (reading_of s) (drop (s.seen + 1) s.held.items)) (reading_of (record m { before = m.before + (m.seen - m.from + 1); seen = m.seen + 1; from = m.seen + 1; place = Before }))
-    same.timed same.ended given same.fault same.is_begun
+    same.timed same.ended given time same.fault same.is_begun
     (omega arith) texts (span_empty (m.seen + 1) m.held.items) refl
     (ap (λ n. drop (n + 1) m.held.items) seen ∙ ap (λ h. drop (s.seen + 1) h.items) same.held)
 
 -- the line was blank
 pub blank_behind : (s : State) → is_blank_so_far s.texts s.place ≡ true →
-    reading_of (record s { before = 0; seen = s.seen + 1; from = s.seen + 1 }) ≡ behind_line (reading_of s) s.given (drop (s.seen + 1) s.held.items)
+    reading_of (record s { before = 0; seen = s.seen + 1; from = s.seen + 1 }) ≡ behind_line (reading_of s) (drop (s.seen + 1) s.held.items)
 blank_behind s blank =
     let b = blank_is s.texts s.place blank in
-    same_reading (behind_line (reading_of s) s.given (drop (s.seen + 1) s.held.items)) (reading_of (record s { before = 0; seen = s.seen + 1; from = s.seen + 1 }))
-    refl refl refl refl refl (omega arith) b.0 (span_empty (s.seen + 1) s.held.items) b.1 refl
+    same_reading (behind_line (reading_of s) (drop (s.seen + 1) s.held.items)) (reading_of (record s { before = 0; seen = s.seen + 1; from = s.seen + 1 }))
+    refl refl refl refl refl refl (omega arith) b.0 (span_empty (s.seen + 1) s.held.items) b.1 refl
 
 module _ (bytes : Text) (s : State) (g : Goes bytes (reading_of s)) where
   module _ (started : s.is_begun ≡ true) (here : s.seen < vec_len s.held) where
@@ -118,15 +118,15 @@ module _ (bytes : Text) (s : State) (g : Goes bytes (reading_of s)) where
 
       pub feed_made : (t : State) (e : Event) → is_blank_so_far s.texts s.place ≡ false → IsMade s t 1 e → Turned bytes (reading_of s) (reading_of t) (Ok (Found e))
       feed_made t e some made = (
-        subst (Goes bytes) (sym made.reading) (feed_goes bytes (reading_of s) g (drop (s.seen + 1) s.held.items) at_feed out some e made.event made.untimed),
+        subst (Goes bytes) (sym made.reading) (feed_goes bytes (reading_of s) g (drop (s.seen + 1) s.held.items) at_feed out some e made.event),
         feed_answers bytes (reading_of s) g (drop (s.seen + 1) s.held.items) at_feed out some e made.event,
       )
 
       pub feed_not_made : (t : State) (f : LogFault) → is_blank_so_far s.texts s.place ≡ false → IsSame s t → IsNotMade s t f → Turned bytes (reading_of s) (reading_of t) (Err f)
       feed_not_made t f some same (inl h) = inl (h.0, subst (Goes bytes) (sym h.1) g)
       feed_not_made t f some same (inr h) =
-          inr (fails_at bytes (reading_of s) (reading_of t) fault.EmptyName f same.timed same.ended h.2 (sym h.0)
-          (feed_fails bytes (reading_of s) g (drop (s.seen + 1) s.held.items) at_feed out some fault.EmptyName h.1))
+          inr (fails_at bytes (reading_of s) (reading_of t) h.0.fault f same.timed same.ended h.1 h.0.named
+          (feed_fails bytes (reading_of s) g (drop (s.seen + 1) s.held.items) at_feed out some h.0.fault h.0.bad))
 
   module _ (started : s.is_begun ≡ true) (end : s.seen ≡ vec_len s.held) where
     none : drop s.seen s.held.items ≡ []
@@ -145,15 +145,15 @@ module _ (bytes : Text) (s : State) (g : Goes bytes (reading_of s)) where
     module _ (over : s.ended ≡ true) (out : is_inside s.place ≡ false) (some : is_blank_so_far s.texts s.place ≡ false) where
       pub end_made : (t : State) (e : Event) → IsMade s t 0 e → Turned bytes (reading_of s) (reading_of t) (Ok (Found e))
       end_made t e made = (
-        subst (Goes bytes) (sym (made.reading ∙ ap (λ l. behind_line (reading_of s) (s.given + 1) l) (ap (λ n. drop n s.held.items) (omega arith) ∙ none))) (last_goes bytes (reading_of s) g started none over out some e made.event),
+        subst (Goes bytes) (sym (made.reading ∙ ap (behind_event (reading_of s) e.time) (ap (λ n. drop n s.held.items) (omega arith) ∙ none))) (last_goes bytes (reading_of s) g started none over out some e made.event),
         last_answers bytes (reading_of s) g started none over out some e made.event,
       )
 
       pub end_not_made : (t : State) (f : LogFault) → IsSame s t → IsNotMade s t f → Turned bytes (reading_of s) (reading_of t) (Err f)
       end_not_made t f same (inl h) = inl (h.0, subst (Goes bytes) (sym h.1) g)
       end_not_made t f same (inr h) =
-          inr (fails_at bytes (reading_of s) (reading_of t) fault.EmptyName f same.timed same.ended h.2 (sym h.0)
-          (last_fails bytes (reading_of s) g started none over out some fault.EmptyName h.1))
+          inr (fails_at bytes (reading_of s) (reading_of t) h.0.fault f same.timed same.ended h.1 h.0.named
+          (last_fails bytes (reading_of s) g started none over out some h.0.fault h.0.bad))
 
 -- what a step says does not depend on how far the reading before it was
 pub turned_as : (bytes : Text) (r q t : Reading) (result : Result Turn LogFault) → q.timed ≡ r.timed → q.ended ≡ r.ended → q.given ≡ r.given → Turned bytes q t result → Turned bytes r t result
@@ -225,7 +225,7 @@ pub behind_mark : (bytes : Text) (s : State) (n : ℕ) → s.from ≡ s.seen →
 behind_mark bytes s n first sound g =
     subst (Goes bytes)
     (sym (same_reading (record (reading_of s) { is_begun = true; rest = drop n (drop s.seen s.held.items) }) (reading_of (record s { seen = s.seen + n; from = s.seen + n; is_begun = true }))
-    refl refl refl refl refl (omega arith) refl
+    refl refl refl refl refl refl (omega arith) refl
     (span_empty (s.seen + n) s.held.items ∙ sym (ap (λ m. span m s.seen s.held.items) first ∙ span_empty s.seen s.held.items)) refl (sym (drop-drop n s.seen s.held.items))))
     g
 
@@ -236,7 +236,6 @@ mark_sound s n first sound within = record {
   short = let a = sound.short in omega arith;
   placed = ap place_of (span_empty (s.seen + n) s.held.items) ∙ sym (ap place_of (span_empty s.seen s.held.items)) ∙ ap (λ m. place_of (span m s.seen s.held.items)) (sym first) ∙ sound.placed;
   unread = λ e. refl;
-  untimed = sound.untimed;
 }
 
 -- an answer of a reading is that of another with the same count

@@ -6,7 +6,7 @@ use Rattle.log_reader.specs.Fields.{text_of}
 use Rattle.log_reader.specs.Lines.{finished, begun, lines_from}
 use Rattle.log_reader.specs.Faults.{Fault, first_fault}
 use Rattle.log_reader.specs.Faults as fault
-use Rattle.log_reader.specs.Records.{End, Rest, At, Cut, no_events, cut, cut_in, without_mark}
+use Rattle.log_reader.specs.Records.{Judged, event_of, End, Rest, At, Cut, no_events, cut, cut_in, without_mark}
 use Rattle.log_reader.specs.Places.{place_of}
 use Rattle.log_reader.specs.declared.place.Place.{Place}
 use Rattle.log_reader.specs.declared.place.Place.TheVariants.{Before, Plain, Inside, AtQuote, Behind}
@@ -36,12 +36,13 @@ answer_at (e ∷ events) end = Ok (Some e)
 abbrev pub answer : Cut → Result (Option Event) LogFault
 answer c = answer_at c.events c.end
 
--- How far a reader is. The line begun has so many bytes; the fields that a comma ended have these texts, and the field
+-- How far a reader is. The event that it gave last has this time, or 0 where it gave none. The line begun has so many bytes; the fields that a comma ended have these texts, and the field
 -- behind them these bytes, with the next byte at this place. The bytes behind are not looked at yet.
 pub record Reading : Type 0 where
   pub timed : Bool
   pub ended : Bool
   pub given : ℕ
+  pub last_time : ℕ
   pub fault : Option LogFault
   pub is_begun : Bool
   pub length : ℕ
@@ -71,7 +72,7 @@ unmarked false bytes = without_mark bytes
 
 -- the records from the line begun on
 abbrev pub records_from : Reading → Text → Text → Bool → Cut
-records_from r line more ended = cut_in r.timed ended (r.given + 1) 0 (lines_from line (unmarked r.is_begun (r.rest ++ more)))
+records_from r line more ended = cut_in r.timed ended (r.given + 1) r.last_time (lines_from line (unmarked r.is_begun (r.rest ++ more)))
 
 -- whatever comes, the records behind those given are those from the line begun on
 pub record Goes (bytes : Text) (r : Reading) : Type 0 where
@@ -110,13 +111,21 @@ is_blank_so_far (t ∷ ts) place = false
 abbrev pub all_texts : Reading → List Text
 all_texts r = r.texts ++ text_of r.field ∷ []
 
+-- what the line begun is, where it is no blank one and the field begun is its last
+abbrev pub judged_reading : Reading → Judged
+judged_reading r = event_of r.timed r.last_time (all_texts r)
+
 -- the reading behind a line
-abbrev pub behind_line : Reading → ℕ → Text → Reading
-behind_line r given rest = record r { given = given; length = 0; texts = []; field = []; place = Before; rest = rest }
+abbrev pub behind_line : Reading → Text → Reading
+behind_line r rest = record r { length = 0; texts = []; field = []; place = Before; rest = rest }
+
+-- the reading behind a line that is an event of this time
+abbrev pub behind_event : Reading → ℕ → Text → Reading
+behind_event r time rest = record (behind_line r rest) { given = r.given + 1; last_time = time }
 
 -- a reader that nothing was fed to
 abbrev pub fresh_reading : Bool → Reading
-fresh_reading timed = record { timed = timed; ended = false; given = 0; fault = None; is_begun = false; length = 0; texts = []; field = []; place = Before; rest = [] }
+fresh_reading timed = record { timed = timed; ended = false; given = 0; last_time = 0; fault = None; is_begun = false; length = 0; texts = []; field = []; place = Before; rest = [] }
 
 abbrev pub with_rest : Reading → Text → Reading
 with_rest r rest = record r { rest = rest }

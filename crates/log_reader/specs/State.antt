@@ -2,15 +2,15 @@
 use Rattle.std.specs.Prelude.{◌≡◌, ◌⊎◌, ℕ, ◌+◌, ◌-◌, ◌^◌, ◌<◌, ◌≤◌, List, [], take, drop, Some, None, Result, Ok, Err, true, false, vec_len, slice_index}
 use Rattle.qtl_syntax.specs.Tree.{Text}
 use Rattle.qtl_truth.specs.declared.event.Event.{Event}
-use Rattle.log_reader.specs.Records.{cut, event_of, Good, Bad}
-use Rattle.log_reader.specs.Faults as fault
+use Rattle.log_reader.specs.Faults.{Fault}
+use Rattle.log_reader.specs.Records.{Judged, cut, Good, Bad}
 use Rattle.log_reader.specs.Places.{is_in_field, is_inside, place_of, run_on}
-use Rattle.log_reader.specs.Standing.{Reading, left, answer, Goes, Fails, all_texts, behind_line}
+use Rattle.log_reader.specs.Standing.{Reading, numbered, left, answer, Goes, Fails, all_texts, judged_reading, behind_event}
 use Rattle.log_reader.specs.declared.place.Place.{Place}
 use Rattle.log_reader.specs.declared.place.Place.TheVariants.{Before}
 use Rattle.log_reader.specs.declared.scan.Scanned.{Scanned}
 use Rattle.log_reader.specs.declared.fault.LogFault.{LogFault}
-use Rattle.log_reader.specs.declared.fault.LogFault.TheVariants.{EmptyName, NoMemory}
+use Rattle.log_reader.specs.declared.fault.LogFault.TheVariants.{NoMemory}
 use Rattle.log_reader.specs.declared.state.State.{State}
 use Rattle.log_reader.specs.declared.state.Turn.{Turn}
 use Rattle.log_reader.specs.declared.state.Turn.TheVariants.{More, Wait, Found}
@@ -33,6 +33,7 @@ reading_of s = record {
   timed = s.timed;
   ended = s.ended;
   given = s.given;
+  last_time = s.last_time;
   fault = s.fault;
   is_begun = s.is_begun;
   length = s.before + (s.seen - s.from);
@@ -49,7 +50,6 @@ pub record IsState (s : State) : Type 0 where
   pub short : s.before + (s.seen - s.from) ≤ 65536
   pub placed : place_of (span s.from s.seen s.held.items) ≡ s.place
   pub unread : s.is_begun ≡ false → s.from ≡ s.seen
-  pub untimed : s.timed ≡ false
 
 -- nothing else changes than how far the line is read
 pub record IsSame (s t : State) : Type 0 where
@@ -76,16 +76,26 @@ with_texts r texts = record r { texts = texts }
 
 -- an event was made of the texts, and the next line begins so many bytes behind
 pub record IsMade (s t : State) (skip : ℕ) (e : Event) : Type 0 where
-  pub event : event_of s.timed 0 (all_texts (reading_of s)) ≡ Good e
-  pub untimed : e.time ≡ 0
+  pub event : judged_reading (reading_of s) ≡ Good e
   pub later : t.seen ≡ s.seen + skip
-  pub reading : reading_of t ≡ behind_line (reading_of s) (s.given + 1) (drop (s.seen + skip) s.held.items)
+  pub reading : reading_of t ≡ behind_event (reading_of s) e.time (drop (s.seen + skip) s.held.items)
+
+-- this fault of the log, with the number of its record, is what is found
+pub record IsFound (number : ℕ) (found : Judged) (f : LogFault) : Type 0 where
+  pub fault : Fault
+  pub named : numbered number fault ≡ f
+  pub bad : found ≡ Bad fault
+
+-- these arguments and this time are those of the event that was found, or a fault is what was found
+abbrev pub IsTaken : ℕ → Judged → Text → List Text → Result ℕ LogFault → Type 0
+IsTaken number found name args (Ok time) = found ≡ Good (record { name = name; args = args; time = time })
+IsTaken number found name args (Err f) = IsFound number found f
 
 -- no event was made
 abbrev pub IsNotMade : State → State → LogFault → Type 0
 IsNotMade s t f =
     ((f ≡ NoMemory) × (reading_of t ≡ reading_of s)) ⊎
-    ((f ≡ EmptyName (s.given + 1)) × (event_of s.timed 0 (all_texts (reading_of s)) ≡ Bad fault.EmptyName) × (t.given ≡ s.given))
+    (IsFound (s.given + 1) (judged_reading (reading_of s)) f × (t.given ≡ s.given))
 
 -- one event more where one was found
 abbrev pub given_after : ℕ → Result Turn LogFault → ℕ

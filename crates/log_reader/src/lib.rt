@@ -10,9 +10,10 @@ mod reader;
 mod scan;
 mod state;
 mod text;
+mod time;
 
 pub use fault::LogFault;
-pub use laws::{records_stay, records_take_bytes};
+pub use laws::{records_stay, records_take_bytes, times_fit, times_never_fall, untimed_is_zero};
 pub use reader::LogReader;
 
 #[cfg(test)]

@@ -32,9 +32,8 @@ impl Model for LogReader {
 }
 
 impl LogReader {
-    /// A reader of an untimed log, of which no byte is fed yet.
+    /// A reader of a log, of which no byte is fed yet. In a timed log the last field of each record is its time.
     pub fn open(alloc: Global, timed: bool) -> Result<LogReader, NoMemory>
-        requires untimed { timed ≡ false }
         ensures fresh { IfOk result (λ r. r ≡ fresh_reading timed) }
         ensures stands { IfOk result (λ r. Stands [] r) }
     {
@@ -50,6 +49,7 @@ impl LogReader {
                 is_begun: false,
                 ended: false,
                 given: 0,
+                last_time: 0,
                 fault: None,
                 scratch: Vec::new(alloc),
             },

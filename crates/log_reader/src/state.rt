@@ -9,6 +9,7 @@ use crate::mark::mark_length;
 use crate::place::{Place, is_inside};
 use crate::scan::scan;
 use crate::text::field_text;
+use crate::time::pop_time;
 use qtl_syntax::Text;
 use qtl_truth::Event;
 use sqlite_items::Items;
@@ -34,6 +35,7 @@ pub enum Turn {
 
 /// The bytes of `held` before `from` are done with. Those before `seen` are the field begun, behind which the next
 /// byte stands at this place. The line has so many bytes before the field, and these texts.
+/// `last_time` is that of the last event, and 0 where there is none.
 #[derive(Drop)]
 pub struct State {
     pub timed: bool,
@@ -46,6 +48,7 @@ pub struct State {
     pub is_begun: bool,
     pub ended: bool,
     pub given: u64,
+    pub last_time: u64,
     pub fault: Option<LogFault>,
     pub scratch: Vec<u8>,
 }
@@ -53,7 +56,8 @@ pub struct State {
 impl State {
     ghost use Rattle.log_reader.specs.Standing.{Goes, IsNext, Sought, Stands, all_texts, given_next, is_blank_so_far, with_rest};
     ghost use Rattle.log_reader.specs.Places.{is_in_field, is_inside as is_inside_lem};
-    ghost use Rattle.log_reader.specs.State.{reading_of, IsState, IsSame, IsAtByte, IsMade, IsNotMade, Turned, given_after};
+    ghost use Rattle.log_reader.specs.Records.{named_event};
+    ghost use Rattle.log_reader.specs.State.{reading_of, IsState, IsSame, IsAtByte, IsTaken, IsMade, IsNotMade, Turned, given_after};
 
     /// Looks at the bytes of the field begun that were not looked at.
     fn scan_field(&mut self)
@@ -118,7 +122,7 @@ impl State {
         requires closed { is_inside_lem self.old.place ≡ false }
         ensures sound { IsState self.new }
         ensures same { IsSame self.old self.new }
-        ensures places { (self.new.seen ≡ self.old.seen) × (self.new.from ≡ self.old.from) × (self.new.before ≡ self.old.before) × (self.new.place ≡ self.old.place) × (self.new.given ≡ self.old.given) }
+        ensures places { (self.new.seen ≡ self.old.seen) × (self.new.from ≡ self.old.from) × (self.new.before ≡ self.old.before) × (self.new.place ≡ self.old.place) × (self.new.given ≡ self.old.given) × (self.new.last_time ≡ self.old.last_time) }
         ensures ok { OnOk result (self.new.texts ≡ all_texts (reading_of self.old)) }
         ensures err { IfErr result (λ f. (f ≡ LogFault.NoMemory) × (reading_of self.new ≡ reading_of self.old)) }
     {
@@ -162,12 +166,35 @@ impl State {
         requires sound { IsState self.old }
         ensures sound { IsState self.new }
         ensures same { IsSame self.old self.new }
-        ensures places { (self.new.seen ≡ self.old.seen) × (self.new.from ≡ self.old.from) × (self.new.before ≡ self.old.before) × (self.new.place ≡ self.old.place) × (self.new.given ≡ self.old.given) }
+        ensures places { (self.new.seen ≡ self.old.seen) × (self.new.from ≡ self.old.from) × (self.new.before ≡ self.old.before) × (self.new.place ≡ self.old.place) × (self.new.given ≡ self.old.given) × (self.new.last_time ≡ self.old.last_time) }
         ensures none { self.new.texts ≡ [] }
         ensures all { result ≡ self.old.texts }
     {
         let alloc = *self.held.allocator();
         mem::replace(&mut self.texts, Items::new(alloc))
+    }
+
+    /// Takes the time of the event off the end of its arguments. In an untimed log it is 0.
+    fn take_time(&self, args: &mut Items<Text>) -> Result<u64, LogFault>
+        requires room { self.now.given + 1 < 2 ^ 64 }
+        ensures { (name : tree.Text) → IsTaken (self.now.given + 1) (named_event self.now.timed self.now.last_time name args.old) name args.new result }
+    {
+        if !self.timed {
+            return Ok(0);
+        }
+        let Some(time) = pop_time(args) else {
+            return Err(LogFault::BadTime {
+                number: self.number(),
+            });
+        };
+        if time < self.last_time {
+            return Err(LogFault::TimeBack {
+                number: self.number(),
+                before: self.last_time,
+                now: time,
+            });
+        }
+        Ok(time)
     }
 
     /// Makes the event of the line, behind which the next one begins after so many bytes.
@@ -189,16 +216,14 @@ impl State {
                 number: self.number(),
             });
         }
+        let time = self.take_time(&mut args)?;
         self.before = 0;
         self.seen += skip;
         self.from = self.seen;
         self.place = Place::Before;
         self.given += 1;
-        Ok(Event {
-            name,
-            args,
-            time: 0,
-        })
+        self.last_time = time;
+        Ok(Event { name, args, time })
     }
 
     /// Ends the line at the line feed behind it.

@@ -21,4 +21,4 @@ returns-clause-turned c = λ bytes g.
     let few : length s.texts < 63 = omega (arith, c.if-len-ge-MAX_COMMAS.false, c.len.ensures) in
     let places = c.add_text.ensures.places in
     field_goes bytes s g at.started at.here (record m { before = m.before + (m.seen - m.from + 1); seen = m.seen + 1; from = m.seen + 1; place = Before }) c.requires.comma at.out c.requires.short few
-    (field_behind s m at.sound c.add_text.ensures.same places.0 places.1 places.2 places.4 c.in_ok-add_text.ensures.ok)
+    (field_behind s m at.sound c.add_text.ensures.same places.0 places.1 places.2 places.4 places.5 c.in_ok-add_text.ensures.ok)

@@ -14,7 +14,6 @@ returns-then-is_blank-clause-sound c =
       short = omega arith;
       placed = ap place_of (span_empty (s.seen + 1) s.held.items) ∙ sym blank.1;
       unread = λ e. refl;
-      untimed = at.sound.untimed;
     }
 
 pub returns-then-is_blank-clause-turned : goal.returns-then-is_blank-clause-turned

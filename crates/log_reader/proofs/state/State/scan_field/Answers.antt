@@ -39,5 +39,4 @@ returns-clause-sound c =
           ∙ place_run (span s.seen seen held) (span s.from s.seen held) c.scan-scanned.result.place
           (ap (λ p. run_on (Some p) (span s.seen seen held)) sound.placed ∙ ap (λ l. run_on (Some s.place) (span s.seen seen l)) (sym c.deref.ensures.value) ∙ c.scan-scanned.ensures.run);
       unread = λ e. absurd (let never : true ≡ false = sym c.requires.begun ∙ e in let n : ⊥ = cc in n);
-      untimed = sound.untimed;
     }
