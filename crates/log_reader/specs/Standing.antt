@@ -36,8 +36,9 @@ answer_at (e ∷ events) end = Ok (Some e)
 abbrev pub answer : Cut → Result (Option Event) LogFault
 answer c = answer_at c.events c.end
 
--- How far a reader is. The event that it gave last has this time, or 0 where it gave none. The line begun has so many bytes; the fields that a comma ended have these texts, and the field
--- behind them these bytes, with the next byte at this place. The bytes behind are not looked at yet.
+-- How far a reader is. The event that it gave last has this time; where it gave none that is 0. The line begun has so
+-- many bytes; the fields that a comma ended have these texts, and the field behind them these bytes, with the next byte
+-- at this place. The bytes behind are not looked at yet.
 pub record Reading : Type 0 where
   pub timed : Bool
   pub ended : Bool

@@ -3,7 +3,7 @@ use Rattle.std.specs.Prelude.{◌≡◌, ◌⊎◌, ℕ, ◌+◌, ◌-◌, ◌^�
 use Rattle.qtl_syntax.specs.Tree.{Text}
 use Rattle.qtl_truth.specs.declared.event.Event.{Event}
 use Rattle.log_reader.specs.Faults.{Fault}
-use Rattle.log_reader.specs.Records.{Judged, cut, Good, Bad}
+use Rattle.log_reader.specs.Records.{Judged, cut, named_event, Good, Bad}
 use Rattle.log_reader.specs.Places.{is_in_field, is_inside, place_of, run_on}
 use Rattle.log_reader.specs.Standing.{Reading, numbered, left, answer, Goes, Fails, all_texts, judged_reading, behind_event}
 use Rattle.log_reader.specs.declared.place.Place.{Place}
@@ -86,10 +86,15 @@ pub record IsFound (number : ℕ) (found : Judged) (f : LogFault) : Type 0 where
   pub named : numbered number fault ≡ f
   pub bad : found ≡ Bad fault
 
--- these arguments and this time are those of the event that was found, or a fault is what was found
-abbrev pub IsTaken : ℕ → Judged → Text → List Text → Result ℕ LogFault → Type 0
-IsTaken number found name args (Ok time) = found ≡ Good (record { name = name; args = args; time = time })
-IsTaken number found name args (Err f) = IsFound number found f
+-- what the line of a state is, by its name that isn't empty, and the texts behind it
+abbrev pub judged_args : State → Text → List Text → Judged
+judged_args s name args = named_event s.timed s.last_time name args
+
+-- of these texts this time was taken, which leaves the event's arguments, or a fault was found
+abbrev pub IsTaken : State → Text → (texts args : List Text) → Result ℕ LogFault → Type 0
+IsTaken s name texts args (Ok time) =
+    judged_args s name texts ≡ Good (record { name = name; args = args; time = time })
+IsTaken s name texts args (Err f) = IsFound (s.given + 1) (judged_args s name texts) f
 
 -- no event was made
 abbrev pub IsNotMade : State → State → LogFault → Type 0

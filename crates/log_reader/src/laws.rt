@@ -24,7 +24,8 @@ pub fn times_fit()
 
 /// The times of a log's events don't fall.
 pub fn times_never_fall()
-    ensures rising { (bytes : tree.Text) (timed ended : Bool) (i j : ℕ) → 1 ≤ j → j ≤ i → i ≤ length (cut bytes timed ended).events →
+    ensures rising { (bytes : tree.Text) (timed ended : Bool) (i j : ℕ) →
+        1 ≤ j → j ≤ i → i ≤ length (cut bytes timed ended).events →
         time_at (cut bytes timed ended).events j ≤ time_at (cut bytes timed ended).events i }
 {}
 

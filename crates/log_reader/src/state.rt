@@ -56,7 +56,6 @@ pub struct State {
 impl State {
     ghost use Rattle.log_reader.specs.Standing.{Goes, IsNext, Sought, Stands, all_texts, given_next, is_blank_so_far, with_rest};
     ghost use Rattle.log_reader.specs.Places.{is_in_field, is_inside as is_inside_lem};
-    ghost use Rattle.log_reader.specs.Records.{named_event};
     ghost use Rattle.log_reader.specs.State.{reading_of, IsState, IsSame, IsAtByte, IsTaken, IsMade, IsNotMade, Turned, given_after};
 
     /// Looks at the bytes of the field begun that were not looked at.
@@ -177,7 +176,7 @@ impl State {
     /// Takes the time of the event off the end of its arguments. In an untimed log it is 0.
     fn take_time(&self, args: &mut Items<Text>) -> Result<u64, LogFault>
         requires room { self.now.given + 1 < 2 ^ 64 }
-        ensures { (name : tree.Text) → IsTaken (self.now.given + 1) (named_event self.now.timed self.now.last_time name args.old) name args.new result }
+        ensures { (name : tree.Text) → IsTaken self.now name args.old args.new result }
     {
         if !self.timed {
             return Ok(0);

@@ -6,10 +6,11 @@ use qtl_truth::Event;
 use std::alloc::{AllocError, Global};
 use std::test::Fail;
 
-/// A reader, how many events it gave at most, and whether its log has ended.
+/// A reader, whether its log has times, how many events it gave at most, and whether its log has ended.
 #[derive(Drop)]
 struct Feeder {
     reader: LogReader,
+    timed: bool,
     given: u64,
     ended: bool,
     ghost counted: { reader.given ≤ given },
@@ -17,9 +18,10 @@ struct Feeder {
 }
 
 impl Feeder {
-    fn open(alloc: Global) -> Result<Feeder, AllocError> {
+    fn open(alloc: Global, timed: bool) -> Result<Feeder, AllocError> {
         Ok(Feeder {
-            reader: LogReader::open(alloc, false)?,
+            reader: LogReader::open(alloc, timed)?,
+            timed,
             given: 0,
             ended: false,
         })
@@ -47,27 +49,35 @@ impl Feeder {
     }
 }
 
-/// Writes an event as its texts with a bar between two, and a semicolon.
-fn show_event(out: &mut Vec<u8>, event: &Event) -> Result<(), AllocError> {
+/// Writes an event as its texts with a bar between two, its time in a timed log, and a semicolon.
+fn show_event(out: &mut Vec<u8>, event: &Event, timed: bool) -> Result<(), AllocError> {
     out.extend_from_slice(event.name.bytes())?;
     for arg in event.args.as_slice() {
         out.push(b'|')?;
         out.extend_from_slice(arg.bytes())?;
     }
+    if timed {
+        let time = format!(in *out.allocator(); "@{}", event.time)?;
+        out.extend_from_slice(time.as_bytes())?;
+    }
     out.push(b';')?;
     Ok(())
 }
 
-fn fault_name(fault: LogFault) -> (&'static str, u64) {
+fn fault_text(alloc: Global, fault: LogFault) -> Result<String, AllocError> {
     match fault {
-        LogFault::QuoteOpen { number } => ("QuoteOpen", number),
-        LogFault::AfterQuote { number } => ("AfterQuote", number),
-        LogFault::RecordTooLong { number } => ("RecordTooLong", number),
-        LogFault::TooManyFields { number } => ("TooManyFields", number),
-        LogFault::EmptyName { number } => ("EmptyName", number),
-        LogFault::BadTime { number } => ("BadTime", number),
-        LogFault::TimeBack { number, .. } => ("TimeBack", number),
-        LogFault::NoMemory => ("NoMemory", 0),
+        LogFault::QuoteOpen { number } => format!(in alloc; "QuoteOpen {number}"),
+        LogFault::AfterQuote { number } => format!(in alloc; "AfterQuote {number}"),
+        LogFault::RecordTooLong { number } => format!(in alloc; "RecordTooLong {number}"),
+        LogFault::TooManyFields { number } => format!(in alloc; "TooManyFields {number}"),
+        LogFault::EmptyName { number } => format!(in alloc; "EmptyName {number}"),
+        LogFault::BadTime { number } => format!(in alloc; "BadTime {number}"),
+        LogFault::TimeBack {
+            number,
+            before,
+            now,
+        } => format!(in alloc; "TimeBack {number} from {before} to {now}"),
+        LogFault::NoMemory => format!(in alloc; "NoMemory"),
     }
 }
 
@@ -75,13 +85,11 @@ fn fault_name(fault: LogFault) -> (&'static str, u64) {
 fn drain(feeder: &mut Feeder, out: &mut Vec<u8>) -> Result<bool, AllocError> {
     for _ in 0..1_000 {
         match feeder.next() {
-            Ok(Some(event)) => show_event(out, &event)?,
+            Ok(Some(event)) => show_event(out, &event, feeder.timed)?,
             Ok(None) => return Ok(true),
             Err(fault) => {
-                let (name, number) = fault_name(fault);
-                out.extend_from_slice(name.as_bytes())?;
-                out.push(b' ')?;
-                out.push(b'0' + (number % 10) as u8)?;
+                let text = fault_text(*out.allocator(), fault)?;
+                out.extend_from_slice(text.as_bytes())?;
                 return Ok(false);
             }
         }
@@ -90,9 +98,9 @@ fn drain(feeder: &mut Feeder, out: &mut Vec<u8>) -> Result<bool, AllocError> {
 }
 
 /// Reads a log in pieces of this size, and writes its events, and then its fault, or a point at its end.
-fn read_in(alloc: Global, log: &[u8], size: usize) -> Result<Vec<u8>, AllocError> {
+fn read_in(alloc: Global, timed: bool, log: &[u8], size: usize) -> Result<Vec<u8>, AllocError> {
     let mut out = Vec::new(alloc);
-    let mut feeder = Feeder::open(alloc)?;
+    let mut feeder = Feeder::open(alloc, timed)?;
     for piece in log.chunks(size.max(1)) {
         feeder.feed(piece)?;
         if !drain(&mut feeder, &mut out)? {
@@ -194,7 +202,81 @@ fn records_by_the_rules(rt: HostRuntime) -> Result<(), Fail> {
     ];
     for (log, records) in cases {
         for size in [1, 2, 3, 1000] {
-            let found = read_in(alloc, log, size)?;
+            let found = read_in(alloc, false, log, size)?;
+            assert_eq!(rt; found.as_slice(), records, "{:?} in pieces of {size}", log);
+        }
+    }
+    Ok(())
+}
+
+#[test]
+fn timed_records_by_the_rules(rt: HostRuntime) -> Result<(), Fail> {
+    let alloc = rt.alloc();
+    let cases: [(&[u8], &[u8]); 52] = [
+        // the last field is the time
+        (b"", b"."),
+        (b"p,5", b"p@5;."),
+        (b"p,5\n", b"p@5;."),
+        (b"p,\"5\"", b"p@5;."),
+        (b"p, 5\t\r\n", b"p@5;."),
+        (b"p,007", b"p@7;."),
+        (b"p,0", b"p@0;."),
+        (b"p,a,5", b"p|a@5;."),
+        (b"p,4,5", b"p|4@5;."),
+        (b"p,,5", b"p|@5;."),
+        (b"p,\"a,6\",5", b"p|a,6@5;."),
+        (b"5,5", b"5@5;."),
+        (b"p,18446744073709551615", b"p@18446744073709551615;."),
+        (b"p,000018446744073709551615", b"p@18446744073709551615;."),
+        (b"\xef\xbb\xbfp,5", b"p@5;."),
+        // no time
+        (b"p", b"BadTime 1"),
+        (b"5", b"BadTime 1"),
+        (b"p,", b"BadTime 1"),
+        (b"p,\"\"", b"BadTime 1"),
+        (b"p,\" 5\"", b"BadTime 1"),
+        (b"p,\"5 \"", b"BadTime 1"),
+        (b"p,5x", b"BadTime 1"),
+        (b"p,x5", b"BadTime 1"),
+        (b"p,5 5", b"BadTime 1"),
+        (b"p,+5", b"BadTime 1"),
+        (b"p,-5", b"BadTime 1"),
+        (b"p,5.0", b"BadTime 1"),
+        (b"p,/", b"BadTime 1"),
+        (b"p,:", b"BadTime 1"),
+        (b"p,5,", b"BadTime 1"),
+        (b"p,5,a", b"BadTime 1"),
+        (b"p,18446744073709551616", b"BadTime 1"),
+        (b"p,99999999999999999999", b"BadTime 1"),
+        (b"p,184467440737095516150", b"BadTime 1"),
+        (b"p,5\nq\n", b"p@5;BadTime 2"),
+        // an empty name comes first
+        (b",5", b"EmptyName 1"),
+        (b",x", b"EmptyName 1"),
+        (b"\"\"", b"EmptyName 1"),
+        (b"p,5\n,4", b"p@5;EmptyName 2"),
+        // times do not fall
+        (b"p,5\nq,5\nr,6", b"p@5;q@5;r@6;."),
+        (b"p,5\nq,4", b"p@5;TimeBack 2 from 5 to 4"),
+        (b"p,5\nq,4\n", b"p@5;TimeBack 2 from 5 to 4"),
+        (b"p,5\nq,16\nr,6\n", b"p@5;q@16;TimeBack 3 from 16 to 6"),
+        (
+            b"p,18446744073709551615\nq,0\n",
+            b"p@18446744073709551615;TimeBack 2 from 18446744073709551615 to 0",
+        ),
+        (b"p,5\n\n \t\r\n\nq,6\r\n", b"p@5;q@6;."),
+        (b"p,5\n\n \nq,4\n", b"p@5;TimeBack 2 from 5 to 4"),
+        // the faults that have a place come first, and quotes that stay open
+        (b"p,\"5\"x", b"AfterQuote 1"),
+        (b"p,\"x\"y", b"AfterQuote 1"),
+        (b"p,5\nq,\"4\"x\n", b"p@5;AfterQuote 2"),
+        (b"p,5\nq,\"4", b"p@5;QuoteOpen 2"),
+        (b",\"5", b"QuoteOpen 1"),
+        (b"p,5\nq,4,\"r\nr,7\n", b"p@5;QuoteOpen 2"),
+    ];
+    for (log, records) in cases {
+        for size in [1, 2, 3, 1000] {
+            let found = read_in(alloc, true, log, size)?;
             assert_eq!(rt; found.as_slice(), records, "{:?} in pieces of {size}", log);
         }
     }
@@ -251,7 +333,7 @@ fn limits_of_lines_and_fields(rt: HostRuntime) -> Result<(), Fail> {
     for (front, fill, count, behind, end) in cases {
         let log = long_log(alloc, front, fill, count, behind)?;
         for size in [1, 4096, 100_000] {
-            let found = read_in(alloc, log.as_slice(), size)?;
+            let found = read_in(alloc, false, log.as_slice(), size)?;
             assert_eq!(rt;
                 last_part(found.as_slice()),
                 end,
@@ -268,18 +350,42 @@ fn the_least_place_decides(rt: HostRuntime) -> Result<(), Fail> {
     // The 64th comma stands before byte 65,537, at it, and behind an open quote.
     let mut early = long_log(alloc, b"a", b',', 64, b"")?;
     early.append(&mut long_log(alloc, b"", b'b', 65_536, b"\n")?)?;
-    let found = read_in(alloc, early.as_slice(), 1000)?;
+    let found = read_in(alloc, false, early.as_slice(), 1000)?;
     assert_eq!(rt; found.as_slice(), b"TooManyFields 1".as_slice());
     let mut late = long_log(alloc, b"a", b',', 63, b"")?;
     late.append(&mut long_log(alloc, b"", b'b', 65_472, b",\n")?)?;
-    let found = read_in(alloc, late.as_slice(), 1000)?;
+    let found = read_in(alloc, false, late.as_slice(), 1000)?;
     assert_eq!(rt; found.as_slice(), b"RecordTooLong 1".as_slice());
     // A second line counts anew.
     let mut second = long_log(alloc, b"a\n", b'b', 65_536, b"\n")?;
     second.append(&mut long_log(alloc, b"", b'c', 65_537, b"")?)?;
-    let found = read_in(alloc, second.as_slice(), 1000)?;
+    let found = read_in(alloc, false, second.as_slice(), 1000)?;
     assert!(rt; found.as_slice().starts_with(b"a;b"));
     assert!(rt; found.as_slice().ends_with(b";RecordTooLong 3"));
+    Ok(())
+}
+
+#[test]
+fn limits_come_before_times(rt: HostRuntime) -> Result<(), Fail> {
+    let alloc = rt.alloc();
+    let cases: [(&[u8], u8, usize, &[u8], &[u8]); 5] = [
+        (b"p,5\nq", b',', 63, b"5\n", b"."),
+        (b"p", b',', 63, b"\n", b"BadTime 1"),
+        (b"p", b',', 64, b"\n", b"TooManyFields 1"),
+        (b"p,", b'0', 65_533, b"7\n", b"."),
+        (b"p,", b'0', 65_535, b"\n", b"RecordTooLong 1"),
+    ];
+    for (front, fill, count, behind, end) in cases {
+        let log = long_log(alloc, front, fill, count, behind)?;
+        for size in [1, 100_000] {
+            let found = read_in(alloc, true, log.as_slice(), size)?;
+            assert_eq!(rt;
+                last_part(found.as_slice()),
+                end,
+                "{count} bytes, in pieces of {size}"
+            );
+        }
+    }
     Ok(())
 }
 
@@ -296,7 +402,7 @@ fn behind(feeder: &mut Feeder, alloc: Global, piece: &[u8]) -> Result<Vec<u8>, A
 #[test]
 fn a_log_that_goes_on(rt: HostRuntime) -> Result<(), Fail> {
     let alloc = rt.alloc();
-    let mut feeder = Feeder::open(alloc)?;
+    let mut feeder = Feeder::open(alloc, false)?;
     let pieces: [(&[u8], &[u8]); 12] = [
         (b"p,\"a", b"."),
         (b"b\"\n", b"p|ab;."),
@@ -315,13 +421,36 @@ fn a_log_that_goes_on(rt: HostRuntime) -> Result<(), Fail> {
         let found = behind(&mut feeder, alloc, piece)?;
         assert_eq!(rt; found.as_slice(), records, "{:?}", piece);
     }
-    let mut twice = Feeder::open(alloc)?;
+    let mut twice = Feeder::open(alloc, false)?;
     twice.feed(b"p,\"a\"b")?;
     for _ in 0..2 {
         match twice.next() {
             Err(fault) => assert_eq!(rt; fault, LogFault::AfterQuote { number: 1 }),
             _ => assert!(rt; false),
         }
+    }
+    Ok(())
+}
+
+#[test]
+fn a_timed_log_that_goes_on(rt: HostRuntime) -> Result<(), Fail> {
+    let alloc = rt.alloc();
+    let mut feeder = Feeder::open(alloc, true)?;
+    let pieces: [(&[u8], &[u8]); 10] = [
+        (b"p,1", b"."),
+        (b"8\nq,", b"p@18;."),
+        (b"\"1", b"."),
+        (b"8\"", b"."),
+        (b"\n", b"q@18;."),
+        (b"r,20\nr,2", b"r@20;."),
+        (b"0\ns,1", b"r@20;."),
+        (b"9", b"."),
+        (b"\n", b"TimeBack 5 from 20 to 19"),
+        (b"s,21\n", b"TimeBack 5 from 20 to 19"),
+    ];
+    for (piece, records) in pieces {
+        let found = behind(&mut feeder, alloc, piece)?;
+        assert_eq!(rt; found.as_slice(), records, "{:?}", piece);
     }
     Ok(())
 }
