@@ -4,3 +4,4 @@ pub mod Making
 pub mod Sizes
 pub mod Lines
 pub mod PastAges
+pub mod Negating

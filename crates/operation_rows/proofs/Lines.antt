@@ -147,12 +147,12 @@ module _ (number : ℕ) (tree : Tree) (roots letters : List ℕ) (mid w : Table)
       subst (λ rs. MakesUpdate (timed rs now next) roots old new r) (snoc rows more x)
       (rest (rows ++ x ∷ []) old (omega (arith, l, n)) (m.made rows old n before))
 
-  -- the last row, of which the remembered tree is a letter
-  pub end_last : (h e : ℕ) → letters ≡ e ∷ [] → MakesRow number tree roots letters mid w (Ok h) →
+  -- the last row, of which the remembered tree is the first letter
+  pub end_last : (h e : ℕ) (others : List ℕ) → letters ≡ e ∷ others → MakesRow number tree roots letters mid w (Ok h) →
       EndsRows number (row (map (tree_of mid) letters) tree ∷ []) tree (tree_of mid e) roots mid w (Ok (record { now = h; next = e }))
-  end_last h e only m rows old n before =
+  end_last h e others first m rows old n before =
       let made = m.made rows old n before in
-      let stay : AllStay mid w (e ∷ []) = subst (AllStay mid w) only m.letters_stay in
+      let stay : AllStay mid w (e ∷ others) = subst (AllStay mid w) first m.letters_stay in
       record {
         room = made.room;
         shared = m.shared;

@@ -24,7 +24,7 @@ use std::sync::ledger::Ledger;
 use timed_bits::{age_cap, at_time};
 
 /// The first row, which caps ages.
-fn cap_row<L: Ledger>(
+pub(crate) fn cap_row<L: Ledger>(
     store: &mut Store,
     block: Block,
     h: Handle,
@@ -145,7 +145,7 @@ fn past_joined_rows<L: Ledger>(
 }
 
 /// The last three rows: the stamp of w, and then those two.
-fn past_stamped_rows<L: Ledger>(
+pub(crate) fn past_stamped_rows<L: Ledger>(
     store: &mut Store,
     block: Block,
     a: Handle,

@@ -126,7 +126,7 @@ pub(crate) fn any_row<L: Ledger>(
 }
 
 /// The first row, which drops ages.
-fn drop_row<L: Ledger>(
+pub(crate) fn drop_row<L: Ledger>(
     store: &mut Store,
     block: Block,
     h: Handle,
@@ -181,7 +181,7 @@ fn last_row<L: Ledger>(
 }
 
 /// The last two rows: the ages that were kept or the new ones, and where they are.
-fn joined_rows<L: Ledger>(
+pub(crate) fn joined_rows<L: Ledger>(
     store: &mut Store,
     block: Block,
     c: Handle,

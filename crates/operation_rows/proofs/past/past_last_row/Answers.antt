@@ -11,7 +11,7 @@ pub at_row-requires-clause-operand : goal.at_row-requires-clause-operand
 at_row-requires-clause-operand g c = inr (0, omega arith, refl)
 
 pub returns-in-Ok-clause-made : goal.returns-in-Ok-clause-made
-returns-in-Ok-clause-made g c = end_last c.args.number (at_time c.args.block.first c.args.block.bits c.args.past (tree_of c.args.store.now.table c.args.e)) (take c.args.done c.args.handles.now) (c.args.e ∷ []) c.args.store.now.table c.at_row.new.store.table c.in-Ok.now c.args.e refl c.in-Ok.ensures.row
+returns-in-Ok-clause-made g c = end_last c.args.number (at_time c.args.block.first c.args.block.bits c.args.past (tree_of c.args.store.now.table c.args.e)) (take c.args.done c.args.handles.now) (c.args.e ∷ []) c.args.store.now.table c.at_row.new.store.table c.in-Ok.now c.args.e [] refl c.in-Ok.ensures.row
 
 pub returns-in-Err-clause-made : goal.returns-in-Err-clause-made
 returns-in-Err-clause-made g c = end_err c.args.number (at_time c.args.block.first c.args.block.bits c.args.past (tree_of c.args.store.now.table c.args.e)) (take c.args.done c.args.handles.now) (c.args.e ∷ []) c.args.store.now.table c.at_row.new.store.table c.in-Err.full [] (at_time c.args.block.first c.args.block.bits c.args.past (tree_of c.args.store.now.table c.args.e)) (tree_of c.args.store.now.table c.args.e) c.in-Err.ensures.row
