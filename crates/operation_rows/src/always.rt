@@ -1,12 +1,13 @@
 //! The rows of always with a bound: those of once for the negation of its operand, and the negation of their tree.
 
-ghost use Rattle.std.specs.Prelude.{◌≡◌, ◌+◌, ◌^◌, ◌≤◌, ◌<◌, ◌∷◌, [], length, take, not};
+ghost use Rattle.std.specs.Prelude.{◌≡◌, ◌+◌, ◌*◌, ◌^◌, ◌≤◌, ◌<◌, ◌∷◌, [], length, take, not};
 ghost use Rattle.std.specs.List.{Contains};
 ghost use Rattle.node_tree.specs.Levels.{LevelsBelow};
 ghost use Rattle.node_table.specs.Table.{tree_of, IsValid};
 ghost use Rattle.node_table.specs.Collects.{AllValid};
 ghost use Rattle.bdd_ops.specs.declared.op.Op.TheVariants.{And, Or, AndNot};
 ghost use Rattle.bdd_ops.specs.Apply.{map_leaves};
+ghost use Rattle.bdd_ops.specs.Shelf.{handle_pairs, IsLarge};
 ghost use Rattle.timed_bits.specs.Ages.{HasAgesTo};
 ghost use Rattle.timed_bits.specs.Changes.{age_drop, age_cap, any_time, at_time, stamp};
 ghost use Rattle.timed_bits.specs.Entries.{IsAgeTree};
@@ -42,6 +43,7 @@ fn negation_row<L: Ledger>(
         store.old.table store.new.table result }
     ensures roots { take done handles.new ≡ take done handles.old }
     ensures count { length handles.new ≡ length handles.old }
+    ensures cost { IsLarge store.old → steps.new ≤ steps.old + 6 * handle_pairs store.old.table }
     ensures entries { store.new.memo.entries ≡ store.old.memo.entries }
 {
     let end = keep(handles, done, letters);
@@ -69,6 +71,7 @@ fn negated_row<L: Ledger>(
         (take done handles.old) store.old.table store.new.table result }
     ensures roots { take done handles.new ≡ take done handles.old }
     ensures count { length handles.new ≡ length handles.old }
+    ensures cost { IsLarge store.old → steps.new ≤ steps.old + 6 * handle_pairs store.old.table }
     ensures entries { store.new.memo.entries ≡ store.old.memo.entries }
 {
     let letters = [once.next, once.now];
@@ -105,6 +108,7 @@ fn fresh_rows<L: Ledger>(
         (take done handles.old) store.old.table store.new.table result }
     ensures roots { take done handles.new ≡ take done handles.old }
     ensures count { length handles.new ≡ length handles.old }
+    ensures cost { IsLarge store.old → steps.new ≤ steps.old + 3 * (6 * handle_pairs store.old.table) }
     ensures entries { store.new.memo.entries ≡ store.old.memo.entries }
 {
     let letters = [c, o];
@@ -138,6 +142,7 @@ fn not_rows<L: Ledger>(
         (fresh_ages block.first block.bits c (map_leaves not f)) (take done handles.old) store.old.table store.new.table result }
     ensures roots { take done handles.new ≡ take done handles.old }
     ensures count { length handles.new ≡ length handles.old }
+    ensures cost { IsLarge store.old → steps.new ≤ steps.old + 4 * (6 * handle_pairs store.old.table) }
     ensures entries { store.new.memo.entries ≡ store.old.memo.entries }
 {
     let letters = [c];
@@ -170,6 +175,7 @@ fn within_rows<L: Ledger>(
         (take done handles.old) store.old.table store.new.table result }
     ensures roots { take done handles.new ≡ take done handles.old }
     ensures count { length handles.new ≡ length handles.old }
+    ensures cost { IsLarge store.old → steps.new ≤ steps.old + 5 * (6 * handle_pairs store.old.table) }
     ensures entries { store.new.memo.entries ≡ store.old.memo.entries }
 {
     let _held = store.live();
@@ -207,6 +213,7 @@ fn once_not_at_most_rows<L: Ledger>(
         (any_time block.first block.bits e) e) (take done handles.old) store.old.table store.new.table result }
     ensures roots { take done handles.new ≡ take done handles.old }
     ensures count { length handles.new ≡ length handles.old }
+    ensures cost { IsLarge store.old → steps.new ≤ steps.old + 6 * (6 * handle_pairs store.old.table) }
     ensures entries { store.new.memo.entries ≡ store.old.memo.entries }
 {
     match drop_row(store, block, m, delta, n, handles, done, steps) {
@@ -247,6 +254,7 @@ pub fn always_at_most_rows<L: Ledger>(
         (take done handles.old) store.old.table store.new.table result }
     ensures roots { take done handles.new ≡ take done handles.old }
     ensures count { length handles.new ≡ length handles.old }
+    ensures cost { IsLarge store.old → steps.new ≤ steps.old + 7 * (6 * handle_pairs store.old.table) }
     ensures entries { store.new.memo.entries ≡ store.old.memo.entries }
 {
     match once_not_at_most_rows(store, block, n, delta, f, m, handles, done, steps) {
@@ -283,6 +291,7 @@ fn lacking_rows<L: Ledger>(
         (lacking_ages block.first block.bits a y o) (take done handles.old) store.old.table store.new.table result }
     ensures roots { take done handles.new ≡ take done handles.old }
     ensures count { length handles.new ≡ length handles.old }
+    ensures cost { IsLarge store.old → steps.new ≤ steps.old + 4 * (6 * handle_pairs store.old.table) }
     ensures entries { store.new.memo.entries ≡ store.old.memo.entries }
 {
     let letters = [a, y, o];
@@ -319,6 +328,7 @@ fn past_not_rows<L: Ledger>(
         (lacking_ages block.first block.bits a y (map_leaves not f)) (take done handles.old) store.old.table store.new.table result }
     ensures roots { take done handles.new ≡ take done handles.old }
     ensures count { length handles.new ≡ length handles.old }
+    ensures cost { IsLarge store.old → steps.new ≤ steps.old + 5 * (6 * handle_pairs store.old.table) }
     ensures entries { store.new.memo.entries ≡ store.old.memo.entries }
 {
     let letters = [a, y];
@@ -352,6 +362,7 @@ fn past_never_rows<L: Ledger>(
         (past_never_ages block.first block.bits a f) (take done handles.old) store.old.table store.new.table result }
     ensures roots { take done handles.new ≡ take done handles.old }
     ensures count { length handles.new ≡ length handles.old }
+    ensures cost { IsLarge store.old → steps.new ≤ steps.old + 6 * (6 * handle_pairs store.old.table) }
     ensures entries { store.new.memo.entries ≡ store.old.memo.entries }
 {
     let _held = store.live();
@@ -389,6 +400,7 @@ fn once_not_more_than_rows<L: Ledger>(
         (at_time block.first block.bits (n + 1) e) e) (take done handles.old) store.old.table store.new.table result }
     ensures roots { take done handles.new ≡ take done handles.old }
     ensures count { length handles.new ≡ length handles.old }
+    ensures cost { IsLarge store.old → steps.new ≤ steps.old + 7 * (6 * handle_pairs store.old.table) }
     ensures entries { store.new.memo.entries ≡ store.old.memo.entries }
 {
     match cap_row(store, block, m, delta, n + 1, handles, done, steps) {
@@ -430,6 +442,7 @@ pub fn always_more_than_rows<L: Ledger>(
         (take done handles.old) store.old.table store.new.table result }
     ensures roots { take done handles.new ≡ take done handles.old }
     ensures count { length handles.new ≡ length handles.old }
+    ensures cost { IsLarge store.old → steps.new ≤ steps.old + 8 * (6 * handle_pairs store.old.table) }
     ensures entries { store.new.memo.entries ≡ store.old.memo.entries }
 {
     match once_not_more_than_rows(store, block, n, delta, f, m, handles, done, steps) {

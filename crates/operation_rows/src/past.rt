@@ -1,11 +1,12 @@
 //! The rows of the timed operators past a bound.
 
-ghost use Rattle.std.specs.Prelude.{◌≡◌, ◌+◌, ◌^◌, ◌≤◌, ◌<◌, [], length, take};
+ghost use Rattle.std.specs.Prelude.{◌≡◌, ◌+◌, ◌*◌, ◌^◌, ◌≤◌, ◌<◌, [], length, take};
 ghost use Rattle.std.specs.List.{Contains};
 ghost use Rattle.node_tree.specs.Levels.{LevelsBelow};
 ghost use Rattle.node_table.specs.Table.{tree_of, IsValid};
 ghost use Rattle.node_table.specs.Collects.{AllValid};
 ghost use Rattle.bdd_ops.specs.declared.op.Op.TheVariants.{And, Or, AndNot};
+ghost use Rattle.bdd_ops.specs.Shelf.{handle_pairs, IsLarge};
 ghost use Rattle.timed_bits.specs.Ages.{HasAgesTo};
 ghost use Rattle.timed_bits.specs.Changes.{age_cap, any_time, at_time, stamp};
 ghost use Rattle.timed_bits.specs.Entries.{IsAgeTree};
@@ -42,6 +43,7 @@ pub(crate) fn cap_row<L: Ledger>(
     requires operand { IsKept (take done handles.now) [] h }
     requires ages { HasAgesTo block.first block.bits cap (tree_of store.old.table h) }
     ensures row { MakesRow 1 (age_cap block.first block.bits delta cap (tree_of store.old.table h)) (take done handles.now) [] store.old.table store.new.table result }
+    ensures cost { IsLarge store.old → steps.new ≤ steps.old + 6 * handle_pairs store.old.table }
     ensures entries { store.new.memo.entries ≡ store.old.memo.entries }
 {
     match age_cap(store, block, h, delta, cap, &handles[..done], steps) {
@@ -72,6 +74,7 @@ fn at_row<L: Ledger>(
     ensures row { MakesRow number (at_time block.first block.bits age (tree_of store.old.table h)) (take done handles.old) letters.now store.old.table store.new.table result }
     ensures roots { take done handles.new ≡ take done handles.old }
     ensures count { length handles.new ≡ length handles.old }
+    ensures cost { IsLarge store.old → steps.new ≤ steps.old + 6 * handle_pairs store.old.table }
     ensures entries { store.new.memo.entries ≡ store.old.memo.entries }
 {
     let end = keep(handles, done, letters);
@@ -101,6 +104,7 @@ fn past_last_row<L: Ledger>(
     ensures made { EndsRows number (past_last block.first block.bits past (tree_of store.old.table e)) (at_time block.first block.bits past ((tree_of store.old.table e))) ((tree_of store.old.table e)) (take done handles.old) store.old.table store.new.table result }
     ensures roots { take done handles.new ≡ take done handles.old }
     ensures count { length handles.new ≡ length handles.old }
+    ensures cost { IsLarge store.old → steps.new ≤ steps.old + 6 * handle_pairs store.old.table }
     ensures entries { store.new.memo.entries ≡ store.old.memo.entries }
 {
     let letters = [e];
@@ -135,6 +139,7 @@ fn past_joined_rows<L: Ledger>(
     ensures made { EndsRows number (past_joined block.first block.bits past (tree_of store.old.table a) (tree_of store.old.table z)) (at_time block.first block.bits past (applied Or (tree_of store.old.table a) (tree_of store.old.table z))) (applied Or (tree_of store.old.table a) (tree_of store.old.table z)) (take done handles.old) store.old.table store.new.table result }
     ensures roots { take done handles.new ≡ take done handles.old }
     ensures count { length handles.new ≡ length handles.old }
+    ensures cost { IsLarge store.old → steps.new ≤ steps.old + 2 * (6 * handle_pairs store.old.table) }
     ensures entries { store.new.memo.entries ≡ store.old.memo.entries }
 {
     let letters = [a, z];
@@ -168,6 +173,7 @@ pub(crate) fn past_stamped_rows<L: Ledger>(
     ensures made { EndsRows number (past_stamped block.first block.bits past (tree_of store.old.table a) (tree_of store.old.table w)) (at_time block.first block.bits past (applied Or (tree_of store.old.table a) (stamp block.first block.bits (tree_of store.old.table w)))) (applied Or (tree_of store.old.table a) (stamp block.first block.bits (tree_of store.old.table w))) (take done handles.old) store.old.table store.new.table result }
     ensures roots { take done handles.new ≡ take done handles.old }
     ensures count { length handles.new ≡ length handles.old }
+    ensures cost { IsLarge store.old → steps.new ≤ steps.old + 3 * (6 * handle_pairs store.old.table) }
     ensures entries { store.new.memo.entries ≡ store.old.memo.entries }
 {
     let letters = [a, w];
@@ -203,6 +209,7 @@ fn past_elsewhere_rows<L: Ledger>(
     ensures made { EndsRows number (past_elsewhere block.first block.bits past (tree_of store.old.table g) (tree_of store.old.table a) (tree_of store.old.table y)) (at_time block.first block.bits past (applied Or (tree_of store.old.table a) (stamp block.first block.bits (applied AndNot (tree_of store.old.table g) (tree_of store.old.table y))))) (applied Or (tree_of store.old.table a) (stamp block.first block.bits (applied AndNot (tree_of store.old.table g) (tree_of store.old.table y)))) (take done handles.old) store.old.table store.new.table result }
     ensures roots { take done handles.new ≡ take done handles.old }
     ensures count { length handles.new ≡ length handles.old }
+    ensures cost { IsLarge store.old → steps.new ≤ steps.old + 4 * (6 * handle_pairs store.old.table) }
     ensures entries { store.new.memo.entries ≡ store.old.memo.entries }
 {
     let letters = [a, y];
@@ -246,6 +253,7 @@ fn past_all_rows<L: Ledger>(
     ensures made { EndsRows number (past_rows block.first block.bits past (tree_of store.old.table g) (tree_of store.old.table a)) (at_time block.first block.bits past (past_ages block.first block.bits (tree_of store.old.table g) (tree_of store.old.table a))) (past_ages block.first block.bits (tree_of store.old.table g) (tree_of store.old.table a)) (take done handles.old) store.old.table store.new.table result }
     ensures roots { take done handles.new ≡ take done handles.old }
     ensures count { length handles.new ≡ length handles.old }
+    ensures cost { IsLarge store.old → steps.new ≤ steps.old + 5 * (6 * handle_pairs store.old.table) }
     ensures entries { store.new.memo.entries ≡ store.old.memo.entries }
 {
     let _held = store.live();
@@ -294,6 +302,7 @@ pub fn once_more_than_rows<L: Ledger>(
         MakesUpdate (once_more_than a y w z e (at_time block.first block.bits (n + 1) e)) (take done handles.old) store.old.table store.new.table result }
     ensures roots { take done handles.new ≡ take done handles.old }
     ensures count { length handles.new ≡ length handles.old }
+    ensures cost { IsLarge store.old → steps.new ≤ steps.old + 6 * (6 * handle_pairs store.old.table) }
     ensures entries { store.new.memo.entries ≡ store.old.memo.entries }
 {
     match cap_row(store, block, m, delta, n + 1, handles, done, steps) {
@@ -327,6 +336,7 @@ fn since_after_cap<L: Ledger>(
     ensures made { EndsRows 2 (past_since block.first block.bits past (tree_of store.old.table c) (tree_of store.old.table f) (tree_of store.old.table g)) (at_time block.first block.bits past (past_since_ages block.first block.bits (tree_of store.old.table c) (tree_of store.old.table f) (tree_of store.old.table g))) (past_since_ages block.first block.bits (tree_of store.old.table c) (tree_of store.old.table f) (tree_of store.old.table g)) (take done handles.old) store.old.table store.new.table result }
     ensures roots { take done handles.new ≡ take done handles.old }
     ensures count { length handles.new ≡ length handles.old }
+    ensures cost { IsLarge store.old → steps.new ≤ steps.old + 6 * (6 * handle_pairs store.old.table) }
     ensures entries { store.new.memo.entries ≡ store.old.memo.entries }
 {
     let _held = store.live();
@@ -367,6 +377,7 @@ pub fn since_more_than_rows<L: Ledger>(
         MakesUpdate (since_more_than c a y w z e (at_time block.first block.bits (n + 1) e)) (take done handles.old) store.old.table store.new.table result }
     ensures roots { take done handles.new ≡ take done handles.old }
     ensures count { length handles.new ≡ length handles.old }
+    ensures cost { IsLarge store.old → steps.new ≤ steps.old + 7 * (6 * handle_pairs store.old.table) }
     ensures entries { store.new.memo.entries ≡ store.old.memo.entries }
 {
     match cap_row(store, block, m, delta, n + 1, handles, done, steps) {

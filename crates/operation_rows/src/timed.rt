@@ -1,13 +1,14 @@
 //! The rows of the timed operators. Their letters stand behind the roots, so that the roots of each operation are one
 //! slice.
 
-ghost use Rattle.std.specs.Prelude.{◌≡◌, ◌+◌, ◌^◌, ◌≤◌, ◌<◌, ◌++◌, [], length, take};
+ghost use Rattle.std.specs.Prelude.{◌≡◌, ◌+◌, ◌*◌, ◌^◌, ◌≤◌, ◌<◌, ◌++◌, [], length, take};
 ghost use Rattle.std.specs.List.{Contains};
 ghost use Rattle.node_tree.specs.Levels.{LevelsBelow};
 ghost use Rattle.node_table.specs.Table.{tree_of, IsValid};
 ghost use Rattle.node_table.specs.Collects.{AllValid};
 ghost use Rattle.bdd_ops.specs.declared.op.Op.TheVariants.{And, Or, AndNot};
 ghost use Rattle.bdd_ops.specs.Applied.{op_tree};
+ghost use Rattle.bdd_ops.specs.Shelf.{handle_pairs, IsLarge};
 ghost use Rattle.timed_bits.specs.Ages.{HasAgesTo};
 ghost use Rattle.timed_bits.specs.Changes.{age_drop, any_time, stamp};
 ghost use Rattle.timed_bits.specs.Entries.{IsAgeTree};
@@ -56,6 +57,7 @@ pub(crate) fn operate_row<L: Ledger>(
     ensures row { MakesRow number (op_tree op store.old.table u v) (take done handles.old) letters.now store.old.table store.new.table result }
     ensures roots { take done handles.new ≡ take done handles.old }
     ensures count { length handles.new ≡ length handles.old }
+    ensures cost { IsLarge store.old → steps.new ≤ steps.old + 6 * handle_pairs store.old.table }
     ensures entries { store.new.memo.entries ≡ store.old.memo.entries }
 {
     let end = keep(handles, done, letters);
@@ -86,6 +88,7 @@ pub(crate) fn stamp_row<L: Ledger>(
     ensures row { MakesRow number (stamp block.first block.bits (tree_of store.old.table h)) (take done handles.old) letters.now store.old.table store.new.table result }
     ensures roots { take done handles.new ≡ take done handles.old }
     ensures count { length handles.new ≡ length handles.old }
+    ensures cost { IsLarge store.old → steps.new ≤ steps.old + 6 * handle_pairs store.old.table }
     ensures entries { store.new.memo.entries ≡ store.old.memo.entries }
 {
     let end = keep(handles, done, letters);
@@ -116,6 +119,7 @@ pub(crate) fn any_row<L: Ledger>(
     ensures row { MakesRow number (any_time block.first block.bits (tree_of store.old.table h)) (take done handles.old) letters.now store.old.table store.new.table result }
     ensures roots { take done handles.new ≡ take done handles.old }
     ensures count { length handles.new ≡ length handles.old }
+    ensures cost { IsLarge store.old → steps.new ≤ steps.old + 6 * handle_pairs store.old.table }
     ensures entries { store.new.memo.entries ≡ store.old.memo.entries }
 {
     let end = keep(handles, done, letters);
@@ -144,6 +148,7 @@ pub(crate) fn drop_row<L: Ledger>(
     requires operand { IsKept (take done handles.now) [] h }
     requires ages { HasAgesTo block.first block.bits most (tree_of store.old.table h) }
     ensures row { MakesRow 1 (age_drop block.first block.bits delta most (tree_of store.old.table h)) (take done handles.now) [] store.old.table store.new.table result }
+    ensures cost { IsLarge store.old → steps.new ≤ steps.old + 6 * handle_pairs store.old.table }
     ensures entries { store.new.memo.entries ≡ store.old.memo.entries }
 {
     match age_drop(store, block, h, delta, most, &handles[..done], steps) {
@@ -171,6 +176,7 @@ fn last_row<L: Ledger>(
     ensures made { EndsRows number (last_rows block.first block.bits (tree_of store.old.table e)) (any_time block.first block.bits (tree_of store.old.table e)) (tree_of store.old.table e) (take done handles.old) store.old.table store.new.table result }
     ensures roots { take done handles.new ≡ take done handles.old }
     ensures count { length handles.new ≡ length handles.old }
+    ensures cost { IsLarge store.old → steps.new ≤ steps.old + 6 * handle_pairs store.old.table }
     ensures entries { store.new.memo.entries ≡ store.old.memo.entries }
 {
     let letters = [e];
@@ -202,6 +208,7 @@ pub(crate) fn joined_rows<L: Ledger>(
     ensures made { EndsRows number (joined_rows block.first block.bits (tree_of store.old.table c) (tree_of store.old.table z)) (any_time block.first block.bits (applied Or (tree_of store.old.table c) (tree_of store.old.table z))) (applied Or (tree_of store.old.table c) (tree_of store.old.table z)) (take done handles.old) store.old.table store.new.table result }
     ensures roots { take done handles.new ≡ take done handles.old }
     ensures count { length handles.new ≡ length handles.old }
+    ensures cost { IsLarge store.old → steps.new ≤ steps.old + 2 * (6 * handle_pairs store.old.table) }
     ensures entries { store.new.memo.entries ≡ store.old.memo.entries }
 {
     let letters = [c, z];
@@ -234,6 +241,7 @@ fn stamped_rows<L: Ledger>(
     ensures made { EndsRows number (stamped_rows block.first block.bits (tree_of store.old.table c) (tree_of store.old.table g)) (any_time block.first block.bits (applied Or (tree_of store.old.table c) (stamp block.first block.bits (tree_of store.old.table g)))) (applied Or (tree_of store.old.table c) (stamp block.first block.bits (tree_of store.old.table g))) (take done handles.old) store.old.table store.new.table result }
     ensures roots { take done handles.new ≡ take done handles.old }
     ensures count { length handles.new ≡ length handles.old }
+    ensures cost { IsLarge store.old → steps.new ≤ steps.old + 3 * (6 * handle_pairs store.old.table) }
     ensures entries { store.new.memo.entries ≡ store.old.memo.entries }
 {
     let letters = [c];
@@ -266,6 +274,7 @@ fn without_rows<L: Ledger>(
     ensures made { EndsRows number (without_rows block.first block.bits (tree_of store.old.table a) (tree_of store.old.table f)) (any_time block.first block.bits (without_ages block.first block.bits (tree_of store.old.table a) (tree_of store.old.table f))) (without_ages block.first block.bits (tree_of store.old.table a) (tree_of store.old.table f)) (take done handles.old) store.old.table store.new.table result }
     ensures roots { take done handles.new ≡ take done handles.old }
     ensures count { length handles.new ≡ length handles.old }
+    ensures cost { IsLarge store.old → steps.new ≤ steps.old + 4 * (6 * handle_pairs store.old.table) }
     ensures entries { store.new.memo.entries ≡ store.old.memo.entries }
 {
     let _held = store.live();
@@ -313,6 +322,7 @@ pub fn once_at_most_rows<L: Ledger>(
         MakesUpdate (once_at_most a c z e (any_time block.first block.bits e)) (take done handles.old) store.old.table store.new.table result }
     ensures roots { take done handles.new ≡ take done handles.old }
     ensures count { length handles.new ≡ length handles.old }
+    ensures cost { IsLarge store.old → steps.new ≤ steps.old + 5 * (6 * handle_pairs store.old.table) }
     ensures entries { store.new.memo.entries ≡ store.old.memo.entries }
 {
     match drop_row(store, block, m, delta, n, handles, done, steps) {
@@ -345,6 +355,7 @@ fn since_after_drop<L: Ledger>(
     ensures made { EndsRows 2 (since_rows block.first block.bits (tree_of store.old.table a) (tree_of store.old.table f) (tree_of store.old.table g)) (any_time block.first block.bits (since_ages block.first block.bits (tree_of store.old.table a) (tree_of store.old.table f) (tree_of store.old.table g))) (since_ages block.first block.bits (tree_of store.old.table a) (tree_of store.old.table f) (tree_of store.old.table g)) (take done handles.old) store.old.table store.new.table result }
     ensures roots { take done handles.new ≡ take done handles.old }
     ensures count { length handles.new ≡ length handles.old }
+    ensures cost { IsLarge store.old → steps.new ≤ steps.old + 5 * (6 * handle_pairs store.old.table) }
     ensures entries { store.new.memo.entries ≡ store.old.memo.entries }
 {
     let _held = store.live();
@@ -386,6 +397,7 @@ pub fn since_at_most_rows<L: Ledger>(
         MakesUpdate (since_at_most a b c z e (any_time block.first block.bits e)) (take done handles.old) store.old.table store.new.table result }
     ensures roots { take done handles.new ≡ take done handles.old }
     ensures count { length handles.new ≡ length handles.old }
+    ensures cost { IsLarge store.old → steps.new ≤ steps.old + 6 * (6 * handle_pairs store.old.table) }
     ensures entries { store.new.memo.entries ≡ store.old.memo.entries }
 {
     match drop_row(store, block, m, delta, n, handles, done, steps) {
