@@ -1,6 +1,6 @@
 pub mod Codes
 pub mod Reading
-pub mod Deepest
+pub mod Readable
 pub mod Judging
 pub mod Opening
 pub mod Coding

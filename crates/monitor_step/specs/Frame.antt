@@ -1,8 +1,9 @@
 -- What the rows of an event are made with, as the definitions speak of it.
-use Rattle.std.specs.Prelude.{ℕ, List, [], length, Option, Some, None}
+use Rattle.std.specs.Prelude.{◌≡◌, ℕ, ◌+◌, ◌*◌, ◌≤◌, List, [], length, Option, Some, None}
 use Rattle.node_tree.specs.Tree.{Tree, Zero}
 use Rattle.subformulas.specs.Matched.{items_of}
 use Rattle.subformulas.specs.Table.{Table}
+use Rattle.subformulas.specs.TimeBits.{time_bits}
 use Rattle.subformulas.specs.declared.need_list.Stretch.{Stretch}
 use Rattle.subformulas.specs.declared.table.Kind.{Kind}
 use Rattle.subformulas.specs.declared.table.Kind.TheVariants as kind
@@ -43,6 +44,13 @@ sources_of plan nodes f trees = record {
   frame = frame_of (setting_with plan f.bits nodes) f;
   memory = memory_in plan.subs trees;
 }
+
+-- the frame's time block stands behind the blocks of the plan's variables, and has its time bits
+pub record HasTimeBlock (plan : Table) (f : of_rows.Frame) : Type 0 where
+  pub first : f.time.first ≡ length plan.variables * f.bits
+  pub bits : f.time.bits ≡ time_bits plan.subs
+  pub few_bits : f.time.bits ≤ 20
+  pub within : f.time.first + f.time.bits ≤ 65536
 
 -- where the kind is an atom, its codes are those of the texts that the event gives through it
 abbrev pub IsCodedKind : Frame → List BlockCode → Kind → Option Stretch → Type 0

@@ -1,23 +1,25 @@
 -- What a step answers, and what it costs.
-use Rattle.std.specs.Prelude.{◌≡◌, ◌≢◌, ℕ, ◌+◌, ◌*◌, ◌^◌, ◌<◌, List, length, false, Option, Some, None, Result, Ok, Err}
-use Rattle.std.specs.List.{AllByRecursion, list_any, sum_by}
+use Rattle.std.specs.Prelude.{◌≡◌, ◌≢◌, ℕ, ◌+◌, ◌*◌, ◌^◌, ◌<◌, List, length, true, Option, Some, None, Result, Ok, Err}
+use Rattle.std.specs.List.{AllByRecursion, sum_by}
 use Rattle.qtl_syntax.specs.Tree.{Text}
 use Rattle.qtl_truth.specs.declared.event.Event.{Event}
 use Rattle.value_codes.specs.Pairs.{code_of}
 use Rattle.subformulas.specs.NeedList.{HasFewVariables}
 use Rattle.subformulas.specs.Needs.{need}
 use Rattle.subformulas.specs.OperationRows.{rows_of}
-use Rattle.subformulas.specs.Table.{Table, is_timed, HasFewTerms}
+use Rattle.subformulas.specs.Table.{Table}
 use Rattle.subformulas.specs.Texts.{Has}
 use Rattle.monitor_model.specs.Ends.{End, CodesFull, NodesFull}
-use Rattle.monitor_model.specs.State.{State, kept, pairs_in}
+use Rattle.monitor_model.specs.Shape.{AreMemories, AreResults}
+use Rattle.monitor_model.specs.State.{State, kept, memory_of, now_of, pairs_in, setting_of}
 use Rattle.monitor_step.specs.declared.monitor.StepEnd.{StepEnd}
 use Rattle.monitor_step.specs.declared.monitor.StepEnd.TheVariants as step_end
 
--- the plan has no timed operator, and no atom of 2^32 terms
-pub record IsUntimed (plan : Table) : Type 0 where
-  pub untimed : list_any (λ s. is_timed s.kind) plan.subs ≡ false
-  pub few_terms : AllByRecursion (λ s. HasFewTerms s.kind) plan.subs
+-- what a monitor remembers, and its trees at the last event if there was one: levels of free variables
+-- alone, ages within their bounds, and a code without a pair reads like all ones
+pub record HasShape (m : State) : Type 0 where
+  pub memory : AreMemories (setting_of m) (pairs_in m) (memory_of m)
+  pub now : m.has_now ≡ true → AreResults (setting_of m) (pairs_in m) (now_of m)
 
 abbrev pub variables_of : State → ℕ
 variables_of m = length m.plan.variables

@@ -1,7 +1,7 @@
 //! The rows of all subformulas at an event.
 
 ghost use Rattle.std.specs.Prelude.{◌≡◌, ◌+◌, ◌-◌, ◌*◌, ◌<◌, ◌≤◌, ◌++◌, [], ◌∷◌, length, map, take, drop, slice_get, slice_index_or, Some, None, true, false, set, if◌then◌else◌};
-ghost use Rattle.std.specs.List.{All, list_any, sum_by};
+ghost use Rattle.std.specs.List.{All, sum_by};
 ghost use Rattle.node_table.specs.Table.{tree_of};
 ghost use Rattle.node_table.specs.Collects.{AllValid};
 ghost use Rattle.bdd_ops.specs.Codes.{HasLevels};
@@ -9,11 +9,10 @@ ghost use Rattle.bdd_ops.specs.Shelf.{handle_pairs, IsLarge};
 ghost use Rattle.subformulas.specs.Matched.{AreWithin};
 ghost use Rattle.subformulas.specs.Memory.{is_temporal};
 ghost use Rattle.subformulas.specs.OperationRows.{rows_of};
-ghost use Rattle.subformulas.specs.Table.{is_timed};
 ghost use Rattle.monitor_model.specs.State.{temporal_count};
 ghost use Rattle.monitor_step.specs.Coded.{AreCoded};
-ghost use Rattle.monitor_step.specs.Frame.{frame_of, setting_with, sources_of};
-ghost use Rattle.monitor_step.specs.RowsMade.{AnswersRows, AreOverDeepest};
+ghost use Rattle.monitor_step.specs.Frame.{frame_of, setting_with, sources_of, HasTimeBlock};
+ghost use Rattle.monitor_step.specs.RowsMade.{AnswersRows, AreReadable};
 
 use crate::frame::{Children, Frame};
 use crate::subformula_rows::subformula_rows;
@@ -129,7 +128,6 @@ pub fn event_rows<L: Ledger>(
     remembered: usize,
     steps: &mut Steps<L>,
 ) -> Result<(), NodesFull>
-    requires untimed { list_any (λ s. is_timed s.kind) plan.now.subs ≡ false }
     requires remembered { remembered ≡ temporal_count plan.now.subs }
     requires handles { length handles.old ≡ 2 * remembered + length plan.now.subs + 3 }
     requires valid { AllValid store.old.table (take (2 * remembered) handles.old) }
@@ -138,7 +136,8 @@ pub fn event_rows<L: Ledger>(
     requires coded { AreCoded (frame_of (setting_with plan.now frame.now.bits store.old.table.room) frame.now) plan.now.subs frame.now.coded.now frame.now.matched.now }
     requires within { AreWithin (length frame.now.coded.now) frame.now.matched.now }
     requires blocks { All HasLevels frame.now.coded.now }
-    requires deepest { AreOverDeepest (sources_of plan.now store.old.table.room frame.now (map (tree_of store.old.table) (take remembered handles.old))) }
+    requires time { HasTimeBlock plan.now frame.now }
+    requires readable { AreReadable (sources_of plan.now store.old.table.room frame.now (map (tree_of store.old.table) (take remembered handles.old))) }
     ensures made { AnswersRows (sources_of plan.now store.old.table.room frame.now (map (tree_of store.old.table) (take remembered handles.old))) handles.old handles.new store.old.table store.new.table result }
     ensures room { store.new.table.room ≡ store.old.table.room }
     ensures entries { store.new.memo.entries ≡ store.old.memo.entries }
@@ -151,11 +150,11 @@ pub fn event_rows<L: Ledger>(
         let slot = slot_of(frame.matched, k as usize);
         let done = 2 * remembered + k as usize;
         let children = children_of(handles, 2 * remembered, sub, next);
-        let roots = &handles[..done];
-        match subformula_rows(store, plan, frame, &sub.kind, slot, children, roots, steps) {
+        let kind = &sub.kind;
+        match subformula_rows(store, plan, frame, kind, slot, children, handles, done, steps) {
             Ok(made) => {
-                put(handles, &sub.kind, remembered + next, done, made);
-                next = place_after(&sub.kind, next);
+                put(handles, kind, remembered + next, done, made);
+                next = place_after(kind, next);
             }
             Err(RowFull { row }) => {
                 return Err(NodesFull {

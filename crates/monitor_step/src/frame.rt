@@ -1,7 +1,7 @@
 //! What the rows of an event are made with.
 
 use bdd_ops::BlockCode;
-use node_table::Handle;
+use node_table::{Block, Handle};
 use qtl_truth::Event;
 use subformulas::Stretch;
 use value_codes::Book;
@@ -16,6 +16,8 @@ pub struct Frame<'a> {
     pub matched: &'a [Option<Stretch>],
     pub coded: &'a [BlockCode],
     pub bits: u8,
+    /// The levels that spell ages, behind the blocks of the variables.
+    pub time: Block,
     /// The time since the event before.
     pub delta: u64,
 }

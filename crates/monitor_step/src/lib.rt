@@ -8,14 +8,6 @@ mod monitor;
 mod remember;
 mod serve;
 mod subformula_rows;
+mod temporal_rows;
 
 pub use monitor::{Monitor, Sizes, StepEnd};
-
-#[cfg(test)]
-mod compared_tests;
-#[cfg(test)]
-mod serve_tests;
-#[cfg(test)]
-mod slow_truth;
-#[cfg(test)]
-mod tests;

@@ -10,13 +10,15 @@ ghost use Rattle.wellformed.specs.CoreTruth.{TrueCore};
 ghost use Rattle.node_table.specs.Table.{tree_of, IsValid};
 ghost use Rattle.value_codes.specs.Pairs.{IsBook};
 ghost use Rattle.subformulas.specs.Memory.{IsTemporal};
+ghost use Rattle.subformulas.specs.Table.{HasFewTerms};
+ghost use Rattle.subformulas.specs.TimeBits.{time_bits};
 ghost use Rattle.subformulas.specs.Unfolded.{formula_at};
 ghost use Rattle.bdd_ops.specs.Shelf.{IsLarge};
 ghost use Rattle.monitor_model.specs.Reading.{Reads, Answers};
 ghost use Rattle.monitor_model.specs.Shape.{oldest, HasMemoryShape, HasOwnLevels, ReadsAlike};
 ghost use Rattle.monitor_model.specs.State.{Stands, memory_of, now_of, pairs_in, setting_of, verdict_at};
 ghost use Rattle.monitor_model.specs.Ends.{time_since};
-ghost use Rattle.monitor_step.specs.Monitor.{IsUntimed, MatchEnd, HasCodesFor, HasSmallAtoms, step_bound, variables_of};
+ghost use Rattle.monitor_step.specs.Monitor.{MatchEnd, HasCodesFor, HasShape, HasSmallAtoms, step_bound, variables_of};
 ghost use Rattle.monitor_step.specs.declared.monitor.StepEnd.TheVariants.{NoMemory as TheNoMemory};
 
 use crate::event_rows::{NodesFull, event_rows};
@@ -92,8 +94,8 @@ impl From<NodesFull> for StepEnd {
     }
 }
 
-/// A monitor of a plan without timed operators: books of codes, drawn trees and no event. All its rooms are taken when
-/// it is opened.
+/// A monitor of a plan: books of codes, drawn trees and how many events there were. All its rooms are taken when it is
+/// opened.
 #[derive(Drop)]
 pub struct Monitor {
     alloc: Global,
@@ -117,7 +119,6 @@ pub struct Monitor {
 impl Model for Monitor {
     ghost use Rattle.std.specs.Prelude.{◌≡◌, true, nat_lt};
     ghost use Rattle.monitor_model.specs.State.{State, IsMonitor, IsLive, kept};
-    ghost use Rattle.monitor_step.specs.Monitor.{IsUntimed};
     ghost use Rattle.monitor_step.specs.Stages.{HaveRoom};
 
     ghost Value = { State };
@@ -125,7 +126,7 @@ impl Model for Monitor {
     ghost view = { λ m. record { plan = m.plan; bits = m.bits; shelf = m.store; books = m.books.items; handles = m.handles.items; live = m.live; has_now = nat_lt 0 m.events; events = m.events; last_time = m.last_time } };
 
     ghost invariant = { λ m. let state : State = record { plan = m.plan; bits = m.bits; shelf = m.store; books = m.books.items; handles = m.handles.items; live = m.live; has_now = nat_lt 0 m.events; events = m.events; last_time = m.last_time } in
-        IsMonitor state × IsUntimed m.plan × (m.remembered ≡ kept state) × (m.live ≡ true → IsLive state) × HaveRoom m.plan m.lists };
+        IsMonitor state × (m.remembered ≡ kept state) × (m.live ≡ true → IsLive state) × HaveRoom m.plan m.lists };
 }
 
 /// Empty books for so many variables.
@@ -155,10 +156,25 @@ fn time_since(events: u64, last_time: u64, event: &Event) -> u64
     event.time - last_time
 }
 
+/// The levels that spell ages, behind the blocks of the variables.
+fn time_block(plan: &Plan, bits: u8) -> Block
+    requires few_bits { bits ≤ 20 }
+    ensures first { result.first ≡ length plan.now.variables * bits }
+    ensures bits { result.bits ≡ time_bits plan.now.subs }
+    ensures few { result.bits ≤ 20 }
+    ensures within { result.first + result.bits ≤ 65536 }
+{
+    let _sound = plan.count();
+    Block {
+        first: plan.variables().len() as u16 * bits as u16,
+        bits: plan.time_bits(),
+    }
+}
+
 impl Monitor {
     /// A monitor before the first event.
     pub fn open(alloc: Global, plan: Plan, sizes: Sizes) -> Result<Monitor, NoMemory>
-        requires untimed { IsUntimed plan }
+        requires few_terms { AllByRecursion (λ s. HasFewTerms s.kind) plan.subs }
         requires some_bits { 1 ≤ sizes.bits }
         requires few_bits { sizes.bits ≤ 20 }
         requires some_nodes { 2 ≤ sizes.nodes }
@@ -172,6 +188,7 @@ impl Monitor {
         ensures time { IfOk result (λ m. m.last_time ≡ 0) }
         ensures stands { IfOk result (λ m. Stands m []) }
         ensures judged { IfOk result (λ m. m.has_now ≡ false) }
+        ensures shape { IfOk result HasShape }
     {
         let store = Store::open(alloc, sizes.nodes, sizes.cache)?;
         let variables = plan.variables().len();
@@ -205,6 +222,7 @@ impl Monitor {
         ensures events { OnOk result (self.new.events ≡ self.old.events + 1) }
         ensures time { OnOk result (self.new.last_time ≡ event.now.time) }
         ensures judged { OnOk result (self.new.has_now ≡ true) }
+        ensures shape { OnOk result (HasShape self.new) }
         ensures reads { MatchEnd result (Reads self.old event.now self.new) }
         ensures answers { (log : List TheEvent) → IsLog (log ++ event.now ∷ []) → Stands self.old log →
             MatchEnd result (Answers self.old event.now self.new log) }
@@ -213,6 +231,7 @@ impl Monitor {
     {
         let _nodes = self.store.live();
         let delta = time_since(self.events, self.last_time, event);
+        let time = time_block(&self.plan, self.bits);
         self.live = false;
         code_event(
             self.alloc,
@@ -231,6 +250,7 @@ impl Monitor {
             matched: self.lists.needs.matched(),
             coded: &self.lists.coded,
             bits: self.bits,
+            time,
             delta,
         };
         event_rows(

@@ -1,6 +1,6 @@
 //! The rows of one subformula.
 
-ghost use Rattle.std.specs.Prelude.{◌≡◌, ◌+◌, ◌*◌, ◌≤◌, length, false, IsTrue};
+ghost use Rattle.std.specs.Prelude.{◌≡◌, ◌+◌, ◌*◌, ◌≤◌, length, take, IsTrue};
 ghost use Rattle.std.specs.List.{All, Contains};
 ghost use Rattle.node_table.specs.Table.{tree_of};
 ghost use Rattle.node_table.specs.Collects.{AllValid};
@@ -10,18 +10,18 @@ ghost use Rattle.operation_rows.specs.Rows.{MakesUpdate};
 ghost use Rattle.subformulas.specs.Matched.{IsWithin};
 ghost use Rattle.subformulas.specs.Memory.{is_temporal};
 ghost use Rattle.subformulas.specs.OperationRows.{rows_of};
-ghost use Rattle.subformulas.specs.Table.{children as children_of, is_timed, UsesBelow};
+ghost use Rattle.subformulas.specs.Table.{children as children_of, UsesBelow};
 ghost use Rattle.monitor_model.specs.Rows.{update};
-ghost use Rattle.monitor_step.specs.Frame.{frame_of, setting_with, slot_update, HasAscending, IsCodedKind};
-ghost use Rattle.monitor_step.specs.RowsMade.{IsOverBlock};
+ghost use Rattle.monitor_step.specs.Frame.{frame_of, setting_with, slot_update, HasAscending, HasTimeBlock, IsCodedKind};
+ghost use Rattle.monitor_step.specs.RowsMade.{IsReadable};
 
 use crate::frame::{Children, Frame};
+use crate::temporal_rows::temporal_rows;
 use bdd_ops::{BlockCode, Op, Store};
 use mon_base::Steps;
 use node_table::{Block, Handle};
 use operation_rows::{
-    RowFull, Updated, code_cube_row, interval_rows, leaf_row, not_row, operation_row,
-    quantifier_rows, since_rows,
+    RowFull, Updated, code_cube_row, leaf_row, not_row, operation_row, quantifier_rows,
 };
 use std::sync::ledger::Ledger;
 use subformulas::{Kind, Plan, Stretch};
@@ -35,6 +35,16 @@ pub fn block_of(variable: u32, bits: u8) -> Block
     Block {
         first: (variable * bits as u32) as u16,
         bits,
+    }
+}
+
+/// A constant: a leaf, which no row makes.
+fn leaf(leaf: Handle) -> Updated
+    ensures { result ≡ record { now = leaf; next = leaf } }
+{
+    Updated {
+        now: leaf,
+        next: leaf,
     }
 }
 
@@ -65,8 +75,8 @@ fn atom_row<L: Ledger>(
     }
 }
 
-/// The rows of a subformula of this kind. The handles of its children, and of what it remembers, are among the roots, as
-/// far as the kind has them.
+/// The rows of a subformula of this kind. The first so many handles are the roots; those of its children, and of what it
+/// remembers, are among them, as far as the kind has them. Letters of the rows are put behind the roots.
 pub fn subformula_rows<L: Ledger>(
     store: &mut Store,
     plan: &Plan,
@@ -74,46 +84,34 @@ pub fn subformula_rows<L: Ledger>(
     kind: &Kind,
     slot: Option<Stretch>,
     children: Children,
-    roots: &[Handle],
+    handles: &mut [Handle],
+    done: usize,
     steps: &mut Steps<L>,
 ) -> Result<Updated, RowFull>
-    requires untimed { is_timed kind.now ≡ false }
     requires uses { UsesBelow (length plan.now.variables) kind.now }
     requires levels { length plan.now.variables * frame.now.bits ≤ 65536 }
     requires coded { IsCodedKind (frame_of (setting_with plan.now frame.now.bits store.old.table.room) frame.now) frame.now.coded.now kind.now slot }
     requires within { IsWithin (length frame.now.coded.now) slot }
     requires blocks { All HasLevels frame.now.coded.now }
-    requires deepest { IsOverBlock (setting_with plan.now frame.now.bits store.old.table.room) kind.now (tree_of store.old.table children.left) }
-    requires left { 1 ≤ children_of kind.now → Contains roots.now children.left }
-    requires right { 2 ≤ children_of kind.now → Contains roots.now children.right }
-    requires memory { IsTrue (is_temporal kind.now) → Contains roots.now children.memory }
-    requires roots { AllValid store.old.table roots.now }
-    ensures made { MakesUpdate (update (frame_of (setting_with plan.now frame.now.bits store.old.table.room) frame.now) kind.now (tree_of store.old.table children.left) (tree_of store.old.table children.right) (tree_of store.old.table children.memory)) roots.now store.old.table store.new.table result }
+    requires time { HasTimeBlock plan.now frame.now }
+    requires readable { IsReadable (setting_with plan.now frame.now.bits store.old.table.room) kind.now (tree_of store.old.table children.left) (tree_of store.old.table children.right) (tree_of store.old.table children.memory) }
+    requires room { done + 3 ≤ length handles.old }
+    requires left { 1 ≤ children_of kind.now → Contains (take done handles.old) children.left }
+    requires right { 2 ≤ children_of kind.now → Contains (take done handles.old) children.right }
+    requires memory { IsTrue (is_temporal kind.now) → Contains (take done handles.old) children.memory }
+    requires roots { AllValid store.old.table (take done handles.old) }
+    ensures made { MakesUpdate (update (frame_of (setting_with plan.now frame.now.bits store.old.table.room) frame.now) kind.now (tree_of store.old.table children.left) (tree_of store.old.table children.right) (tree_of store.old.table children.memory)) (take done handles.old) store.old.table store.new.table result }
+    ensures roots { take done handles.new ≡ take done handles.old }
+    ensures count { length handles.new ≡ length handles.old }
     ensures cost { IsLarge store.old → steps.new ≤ steps.old + rows_of kind.now frame.now.bits * (6 * handle_pairs store.old.table) }
     ensures entries { store.new.memo.entries ≡ store.old.memo.entries }
 {
     let _held = store.live();
-    let _ = plan;
-    let Children {
-        left,
-        right,
-        memory,
-    } = children;
+    let Children { left, right, .. } = children;
+    let roots = &handles[..done];
     match kind {
-        Kind::True => {
-            let one = store.table().one();
-            Ok(Updated {
-                now: one,
-                next: one,
-            })
-        }
-        Kind::False => {
-            let zero = store.table().zero();
-            Ok(Updated {
-                now: zero,
-                next: zero,
-            })
-        }
+        Kind::True => Ok(leaf(store.table().one())),
+        Kind::False => Ok(leaf(store.table().zero())),
         Kind::Atom(_) => atom_row(store, frame.coded, slot, roots, steps),
         Kind::Not => not_row(store, left, roots, steps),
         Kind::And => operation_row(store, Op::And, left, right, roots, steps),
@@ -128,13 +126,6 @@ pub fn subformula_rows<L: Ledger>(
             let block = block_of(*x, frame.bits);
             quantifier_rows(store, true, left, block, roots, steps)
         }
-        Kind::Since => since_rows(store, left, right, memory, roots, steps),
-        Kind::Once => operation_row(store, Op::Or, left, memory, roots, steps),
-        Kind::Always => operation_row(store, Op::And, left, memory, roots, steps),
-        Kind::Interval => interval_rows(store, left, right, memory, roots, steps),
-        _ => Ok(Updated {
-            now: memory,
-            next: left,
-        }),
+        _ => temporal_rows(store, plan, frame, kind, children, handles, done, steps),
     }
 }

@@ -39,7 +39,7 @@ get_within (x ∷ xs) zero a e = omega arith
 get_within (x ∷ xs) (suc i) a e = let h = get_within xs i a e in omega arith
 
 -- a lawful bound's age is a number of 20 bits
-past_fits : (k : Kind) → HasLawfulBound k → past_bound k < 2 ^ 20
+pub past_fits : (k : Kind) → HasLawfulBound k → past_bound k < 2 ^ 20
 past_fits (kind.SinceAtMost n) h = omega arith
 past_fits (kind.SinceMoreThan n) h = omega arith
 past_fits (kind.OnceAtMost n) h = omega arith

@@ -22,14 +22,31 @@ use Rattle.operation_rows.proofs.Fitting.{full_same}
 use Rattle.operation_rows.proofs.Making.{stay_map}
 use Rattle.operation_rows.proofs.Sizes.{Has, has_left, has_right, has_cases}
 use Rattle.monitor_model.specs.Rows.{Frame, Sources, update, updates, nth, now_at, next_at, of_temporal, kept_at, full_from, nodes_full, at_row}
+use Rattle.monitor_model.specs.Setting.{Setting, first_of}
+use Rattle.node_tree.specs.Levels.{LevelsBelow}
 use Rattle.monitor_model.specs.State.{temporal_count}
 use Rattle.monitor_model.proofs.Drawing.Updates.{update_same, update_memory, updates_count, updates_are}
-use Rattle.monitor_step.specs.RowsMade.{memory_in, HasRows, IsOverBlock}
+use Rattle.monitor_step.specs.RowsMade.{memory_in, HasRows, IsBeforeTime, HasOldest, IsReadable}
 use Rattle.monitor_step.proofs.Rows.Counted.{temporal_place, memories_are}
 use Rattle.monitor_step.proofs.Rows.Placed.{nows_to, trees_after, placed_first, placed_last, read_now, read_memory, placed_yes, placed_no}
 
 abbrev none : Update
 none = plain [] Zero
+
+-- what a kind's rows ask of the trees that they read, they ask of the same trees
+readable_same : (s : Setting) (k : Kind) (f f' g g' m m' : Tree) → (1 ≤ children k → f ≡ f') → (2 ≤ children k → g ≡ g') →
+    (is_temporal k ≡ true → m ≡ m') → IsReadable s k f g m → IsReadable s k f' g' m'
+readable_same s (kind.Exists x) f f' g g' m m' p q r h = subst (LevelsBelow (first_of s x + s.bits)) (p (omega arith)) h
+readable_same s (kind.Forall x) f f' g g' m m' p q r h = subst (LevelsBelow (first_of s x + s.bits)) (p (omega arith)) h
+readable_same s (kind.SinceAtMost n) f f' g g' m m' p q r h =
+    (subst (IsBeforeTime s) (p (omega arith)) h.0, subst (IsBeforeTime s) (q (omega arith)) h.1, subst (HasOldest s n) (r refl) h.2)
+readable_same s (kind.SinceMoreThan n) f f' g g' m m' p q r h =
+    (subst (IsBeforeTime s) (p (omega arith)) h.0, subst (IsBeforeTime s) (q (omega arith)) h.1, subst (HasOldest s (n + 1)) (r refl) h.2)
+readable_same s (kind.OnceAtMost n) f f' g g' m m' p q r h = (subst (IsBeforeTime s) (p (omega arith)) h.0, subst (HasOldest s n) (r refl) h.1)
+readable_same s (kind.OnceMoreThan n) f f' g g' m m' p q r h = (subst (IsBeforeTime s) (p (omega arith)) h.0, subst (HasOldest s (n + 1)) (r refl) h.1)
+readable_same s (kind.AlwaysAtMost n) f f' g g' m m' p q r h = (subst (IsBeforeTime s) (p (omega arith)) h.0, subst (HasOldest s n) (r refl) h.1)
+readable_same s (kind.AlwaysMoreThan n) f f' g g' m m' p q r h = (subst (IsBeforeTime s) (p (omega arith)) h.0, subst (HasOldest s (n + 1)) (r refl) h.1)
+readable_same s _ f f' g g' m m' p q r h = tt
 
 -- a handle is one of the first n
 among_first : (hs : List ℕ) (n i h : ℕ) → slice_get hs i ≡ Some h → i < n → (i < length (take n hs)) × (slice_index_or (take n hs) i h ≡ h)
@@ -256,14 +273,12 @@ module _ (fr : Frame) (M : List Tree) (count : length M ≡ temporal_count fr.se
         ∙ (update_memory fr u.kind (now_at made u.left) (now_at made u.right) (tree_of t m) (made.memory (k + 1)) memory_tree
         ∙ sym (updates_are made table (k + 1) u (omega arith) (subst (λ (n : ℕ). slice_get fr.setting.subs n ≡ Some u) (sym back) at)))
 
-    -- nothing stands below the block of a quantifier in its operand's tree
-    pub left_deepest : IsOverBlock fr.setting u.kind (now_at made u.left) → IsOverBlock fr.setting u.kind (tree_of t f)
-    left_deepest h = by_kind u.kind refl h
-      where
-        by_kind : (j : Kind) → u.kind ≡ j → IsOverBlock fr.setting j (now_at made u.left) → IsOverBlock fr.setting j (tree_of t f)
-        by_kind (kind.Exists x) e q = subst (λ v. IsOverBlock fr.setting (kind.Exists x) v) (sym (left_tree (subst (λ (i : Kind). 1 ≤ children i) (sym e) (omega arith)))) q
-        by_kind (kind.Forall x) e q = subst (λ v. IsOverBlock fr.setting (kind.Forall x) v) (sym (left_tree (subst (λ (i : Kind). 1 ≤ children i) (sym e) (omega arith)))) q
-        by_kind _ e q = tt
+    -- and they can be made of these trees
+    pub readable_here : IsReadable fr.setting u.kind (now_at made u.left) (now_at made u.right) (made.memory (k + 1)) →
+        IsReadable fr.setting u.kind (tree_of t f) (tree_of t g) (tree_of t m)
+    readable_here =
+        readable_same fr.setting u.kind (now_at made u.left) (tree_of t f) (now_at made u.right) (tree_of t g) (made.memory (k + 1))
+        (tree_of t m) (λ o. sym (left_tree o)) (λ o. sym (right_tree o)) (λ e. sym (memory_tree e))
 
     pub left_root : 1 ≤ children u.kind → Contains (take (2 * R + k) hs) f
     left_root o = let b = first_child (k + 1) (children u.kind) u.left u.right kids o in let (x, y) = b in contains_first hs (2 * R + k) (2 * R + u.left - 1) f (left x) (omega (arith, x, y))

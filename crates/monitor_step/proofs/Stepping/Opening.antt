@@ -25,7 +25,6 @@ use Rattle.monitor_model.specs.State.{State, IsLive, IsMonitor, Stands, kept, me
 use Rattle.monitor_model.proofs.Standing.Opening.{open_stands}
 use Rattle.monitor_model.proofs.Telling.Given.{plan_is}
 use Rattle.monitor_step.specs.Handles.{AreFirstHandles}
-use Rattle.monitor_step.specs.Monitor.{IsUntimed}
 use Rattle.monitor_step.specs.Serving.{pairs_at}
 use Rattle.monitor_step.proofs.Rows.Kept.{first_memory_is}
 use Rattle.monitor_step.proofs.Stepping.Reading.{none_pinned}
@@ -159,11 +158,12 @@ module _ (m : State) (first : AreFirstHandles m.plan.subs m.shelf.table m.handle
           (λ k u one at. ap first_of_sub at)
 
   -- and it is lawful
-  pub opened : plan_table.IsSound m.plan → IsUntimed m.plan → 1 ≤ m.bits → m.bits ≤ 20 →
+  pub opened : plan_table.IsSound m.plan →
+      AllByRecursion (λ u. plan_table.HasFewTerms u.kind) m.plan.subs → 1 ≤ m.bits → m.bits ≤ 20 →
       length m.books ≡ length m.plan.variables → m.has_now ≡ false → IsMonitor m
-  opened plan untimed low high count none = record {
+  opened plan few low high count none = record {
     plan = plan;
-    few_terms = untimed.few_terms;
+    few_terms = few;
     some_bits = low;
     few_bits = high;
     book_count = count;

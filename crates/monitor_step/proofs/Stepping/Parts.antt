@@ -35,8 +35,8 @@ use Rattle.monitor_model.proofs.Telling.Tells.{stands_tell}
 use Rattle.monitor_step.specs.Coded.{AreCoded}
 use Rattle.monitor_step.specs.Frame.{setting_with, sources_of}
 use Rattle.monitor_step.specs.Handles.{HasRemembered, brought_forward}
-use Rattle.monitor_step.specs.Monitor.{HasCodesFor, MatchEnd, step_bound, variables_of}
-use Rattle.monitor_step.specs.RowsMade.{AnswersRows, AreOverDeepest, HasRows, memory_in}
+use Rattle.monitor_step.specs.Monitor.{HasCodesFor, HasShape, MatchEnd, step_bound, variables_of}
+use Rattle.monitor_step.specs.RowsMade.{AnswersRows, AreReadable, HasRows, memory_in}
 use Rattle.monitor_step.specs.Serving.{pairs_at}
 use Rattle.monitor_step.specs.Stages.{AnswersServing, rows_end, serve_end}
 use Rattle.monitor_step.specs.declared.event_rows.NodesFull as full_row
@@ -45,8 +45,8 @@ use Rattle.monitor_step.specs.declared.monitor.StepEnd.{StepEnd}
 use Rattle.monitor_step.specs.declared.monitor.StepEnd.TheVariants as ends
 use Rattle.monitor_step.specs.declared.serve.ServeEnd.{ServeEnd}
 use Rattle.monitor_step.specs.declared.serve.ServeEnd.TheVariants as serve
-use Rattle.monitor_step.proofs.Rows.Kept.{has_remembered}
-use Rattle.monitor_step.proofs.Stepping.Deepest.{over_deepest}
+use Rattle.monitor_step.proofs.Rows.Kept.{has_remembered, memory_among}
+use Rattle.monitor_step.proofs.Stepping.Readable.{are_readable}
 use Rattle.monitor_step.proofs.Stepping.Reading.{are_next, is_next, listed, listed_made, next_books, no_more, reads_codes, reads_next, reads_rows, rowed, told_is, told_of, listed_full}
 
 -- the trees by a table with the same nodes are the same
@@ -116,10 +116,13 @@ module _ (m : State) (monitor : IsMonitor m) (live : IsLive m) (shared : IsShare
       (sym (ap (λ us. (nth us k).now) (listed_made m live.books monitor.book_count e books served handles_enough)))
       (shaped.now.shape k low high)
 
-  pub deepest : (made : Sources) → made ≡ from_list → AreOverDeepest made
-  deepest made same =
-      over_deepest m monitor.plan made from_list (ap (λ (s : Sources). s.frame.setting) same)
-      (ap updates same) own_levels
+  pub readable : (made : Sources) → made ≡ from_list → AreReadable made
+  readable made same =
+      are_readable m monitor.plan made from_list (ap (λ (s : Sources). s.frame.setting) same)
+      (ap updates same)
+      (λ k temporal.
+      ap (λ (s : Sources). s.memory k) same ∙ sym (memory_among m handles_enough k temporal))
+      live.memory own_levels
 
   -- an event that is refused for its rows
   pub rows_refused : (made : Sources) → made ≡ from_list → (after : State) (full : full_row.NodesFull) →
@@ -216,6 +219,10 @@ serving_refused m monitor live e books after (serve.CodesFull x n) served =
     reads_codes m live.books monitor.book_count e after books x n served
 serving_refused m monitor live e books after serve.NoMemory served = tt
 
+-- a live monitor's diagrams have the shape of their subformulas
+pub live_shape : (m : State) → IsLive m → HasShape m
+live_shape m live = record { memory = live.memory; now = live.now }
+
 -- ---- the stages of a step, as its code names what they have
 
 -- after an event there are events
@@ -284,8 +291,8 @@ module _ (m before : State) (same : m ≡ before) (monitor : IsMonitor m) (live 
         sources_same m monitor live shared e books served f t.room (map (tree_of t) (take n front)) bits
         frame_books event delta room trees_same
 
-    pub over_blocks : AreOverDeepest made
-    over_blocks = deepest m monitor live shared e books served made made_from_list
+    pub rows_readable : AreReadable made
+    rows_readable = readable m monitor live shared e books served made made_from_list
 
     -- an event that is refused for its rows
     pub nodes_refused : (after : State) (full : full_row.NodesFull) →
@@ -326,6 +333,10 @@ module _ (m before : State) (same : m ≡ before) (monitor : IsMonitor m) (live 
           stays_live m monitor live shared e books served after t front mid made made_from_list rows
           own_handles front_is plan its_bits its_room after_books is_live has_now events time book_bits
           sound
+
+      pub next_shape : AllByRecursion (λ b. b.bits ≡ m.bits) books → AllByRecursion IsBook books →
+          HasShape after
+      next_shape book_bits sound = live_shape after (next_live book_bits sound)
 
 -- ---- what a step costs
 

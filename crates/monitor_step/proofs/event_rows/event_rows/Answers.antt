@@ -1,4 +1,4 @@
-use Rattle.std.proofs.Common.{◌≡◌, ℕ, ◌+◌, ◌*◌, ◌<◌, ◌∙◌, sym, ap, refl, subst, arith, length, map, take, Some}
+use Rattle.std.proofs.Common.{◌≡◌, ℕ, ◌+◌, ◌*◌, ◌<◌, ◌∙◌, sym, ap, refl, subst, arith, List, length, map, take, Some}
 use Rattle.std.specs.Prelude.{drop, slice_get, Ok}
 use Rattle.std.specs.List.{sum_by}
 use Rattle.node_table.specs.Table.{tree_of, IsValid}
@@ -9,16 +9,16 @@ use Rattle.subformulas.specs.declared.table.Sub.{Sub}
 use Rattle.subformulas.specs.Matched.{IsWithin}
 use Rattle.subformulas.specs.Memory.{is_temporal}
 use Rattle.subformulas.specs.OperationRows.{rows_of}
-use Rattle.subformulas.specs.Table.{is_timed, UsesBelow}
-use Rattle.subformulas.proofs.ByNumber.{all_at, none_at}
-use Rattle.monitor_model.specs.Rows.{update, updates, full_from, nodes_full}
+use Rattle.subformulas.specs.Table.{UsesBelow}
+use Rattle.subformulas.proofs.ByNumber.{all_at}
+use Rattle.monitor_model.specs.Rows.{update, updates, nth, full_from, nodes_full}
 use Rattle.monitor_step.specs.Frame.{frame_of, setting_with, sources_of, IsCodedKind}
-use Rattle.monitor_step.specs.RowsMade.{IsOverBlock}
+use Rattle.monitor_step.specs.RowsMade.{IsReadable}
 use Rattle.monitor_step.proofs.Rows.Counted.{none_temporal, place_next}
 use Rattle.monitor_step.proofs.Rows.Costs.{rows_counted, rows_most, cost_more, cost_most, cost_by_room}
 use Rattle.monitor_step.proofs.Rows.Kinds.{kind_coded}
 use Rattle.monitor_step.proofs.Rows.Placed.{trees_after}
-use Rattle.monitor_step.proofs.Rows.Made.{at_back, kids_within, count_trees, start_trees, put_count, left_root, right_root, memory_root, left_deepest, update_is, same_full, row_stops, rows_fit, put_both, rows_done}
+use Rattle.monitor_step.proofs.Rows.Made.{at_back, made_from, kids_within, count_trees, start_trees, put_count, left_root, right_root, memory_root, readable_here, update_is, same_full, row_stops, rows_fit, put_both, rows_done}
 use Rattle.monitor_step.proofs.event_rows.event_rows.Goals as goal
 
 pub loop-k-init : goal.loop-k-init
@@ -49,10 +49,6 @@ children_of-children-requires-clause-right g c =
     let low = w.1 in
     omega (arith, low, c.loop-k.invariant.count, c.requires.handles, c.loop-k-test.true, c.count-k-end.ensures.count)
 
-pub subformula_rows-requires-clause-untimed : goal.subformula_rows-requires-clause-untimed
-subformula_rows-requires-clause-untimed g c =
-    none_at (λ s. is_timed s.kind) c.args.plan.now.subs _ c.sub-sub.result.now c.requires.untimed c.sub-sub.ensures
-
 pub subformula_rows-requires-clause-uses : goal.subformula_rows-requires-clause-uses
 subformula_rows-requires-clause-uses g c =
     all_at (λ s. UsesBelow (length c.args.plan.now.variables) s.kind) c.args.plan.now.subs _ c.sub-sub.result.now c.count-k-end.ensures.sound.uses c.sub-sub.ensures
@@ -78,8 +74,8 @@ subformula_rows-requires-clause-coded g c =
 pub subformula_rows-requires-clause-within : goal.subformula_rows-requires-clause-within
 subformula_rows-requires-clause-within g c = subst (IsWithin (length c.args.frame.now.coded.now)) (sym c.slot_of-slot.ensures) (c.requires.within c.loop-k.k)
 
-pub subformula_rows-requires-clause-deepest : goal.subformula_rows-requires-clause-deepest
-subformula_rows-requires-clause-deepest g c =
+pub subformula_rows-requires-clause-readable : goal.subformula_rows-requires-clause-readable
+subformula_rows-requires-clause-readable g c =
     let inv = c.loop-k.invariant in
     let plan = c.args.plan.now in
     let subs = plan.subs in
@@ -93,8 +89,8 @@ subformula_rows-requires-clause-deepest g c =
     let count = count_trees c.args.store.now.table c.args.handles.now c.args.remembered (length subs) subs c.requires.handles c.requires.remembered in
     let kids = c.children_of-children.result in
     let memory = subst (λ (n : ℕ). slice_get hs n ≡ Some kids.memory) inv.next c.children_of-children.ensures.memory in
-    subst (λ (n : ℕ). IsOverBlock (setting_with plan c.args.frame.now.bits n) u.kind (tree_of c.loop-k.store.table kids.left)) (sym inv.room)
-    (left_deepest fr before count k u at c.count-k-end.ensures.sound.table c.loop-k.store.table hs c.args.remembered c.requires.remembered inv.trees kids.left kids.right kids.memory c.children_of-children.ensures.left c.children_of-children.ensures.right memory (c.requires.deepest k u at))
+    subst (λ (n : ℕ). IsReadable (setting_with plan c.args.frame.now.bits n) u.kind (tree_of c.loop-k.store.table kids.left) (tree_of c.loop-k.store.table kids.right) (tree_of c.loop-k.store.table kids.memory)) (sym inv.room)
+    (readable_here fr before count k u at c.count-k-end.ensures.sound.table c.loop-k.store.table hs c.args.remembered c.requires.remembered inv.trees kids.left kids.right kids.memory c.children_of-children.ensures.left c.children_of-children.ensures.right memory (c.requires.readable k u at))
 
 pub subformula_rows-requires-clause-left : goal.subformula_rows-requires-clause-left
 subformula_rows-requires-clause-left g c =
@@ -200,12 +196,17 @@ loop-k-preserved g c =
     let x = c.in-Ok.made in
     let new = c.subformula_rows.new.store.table in
     let own = subst (λ (z : Update). MakesUpdate z roots c.loop-k.store.table new (Ok x)) same c.in-Ok.ensures.made in
-    let inside : 2 * c.args.remembered + k < length hs = omega (arith, inv.count, c.requires.handles, c.loop-k-test.true, c.count-k-end.ensures.count) in
-    let placed = put_both fr before count k u at c.loop-k.store.table new hs c.args.remembered c.loop-k.next c.requires.remembered inv.next inside inv.trees x own in
+    let back = c.subformula_rows.new.handles in
+    let front : take (2 * c.args.remembered + k) back ≡ roots = c.subformula_rows.ensures.roots in
+    let its_count : length back ≡ length hs = c.subformula_rows.ensures.count in
+    let inside : 2 * c.args.remembered + k < length back = omega (arith, its_count, inv.count, c.requires.handles, c.loop-k-test.true, c.count-k-end.ensures.count) in
+    let its_trees = ap (map (tree_of c.loop-k.store.table)) front ∙ inv.trees in
+    let its_own = subst (λ (hs : List ℕ). MakesUpdate (nth (updates (made_from fr before)) (k + 1)) hs c.loop-k.store.table new (Ok x)) (sym front) own in
+    let placed = put_both fr before count k u at c.loop-k.store.table new back c.args.remembered c.loop-k.next c.requires.remembered inv.next inside its_trees x its_own in
     let by = λ (s : Sub). rows_of s.kind c.args.frame.now.bits in
     rw c.put.ensures (record {
       next = place_next subs k c.place_after-next.result c.loop-k.next u at inv.next c.place_after-next.ensures;
-      count = put_count (is_temporal u.kind) hs (c.args.remembered + c.loop-k.next) x.next (2 * c.args.remembered + k) x.now ∙ inv.count;
+      count = put_count (is_temporal u.kind) back (c.args.remembered + c.loop-k.next) x.next (2 * c.args.remembered + k) x.now ∙ (its_count ∙ inv.count);
       valid = placed.valid;
       trees = placed.trees_are;
       fit = rows_fit fr before count k u at inv.fit (same_full fr before count k u at c.loop-k.store.table new roots was (Ok x) inv.room inv.trees same c.in-Ok.ensures.made);

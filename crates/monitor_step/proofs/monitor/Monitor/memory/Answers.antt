@@ -45,10 +45,10 @@ returns c =
     let read = get_or_read hs c.temporal_before.result c.index.result.now place c.index.ensures 0 in
     let tree = subst (λ (m : State). tree_of m.shelf.table c.index.result.now ≡ memory_of m c.args.k) c.self.view_is
     (its_tree _ c.args.k c.index.result.now monitor temporal (read ∙ ap (λ (n : ℕ). slice_index_or hs n 0) c.temporal_before.ensures)) in
-    let live : IsLive m = subst IsLive c.self.view_is (c.self.invariant.3 live_inside) in
+    let live : IsLive m = subst IsLive c.self.view_is (c.self.invariant.2 live_inside) in
     record {
       valid = subst (λ (m : State). IsValid m.shelf.table c.index.result.now) c.self.view_is
-          (subst (λ (h : ℕ). IsValid c.self.inside.store.table h) (sym read) ((c.self.invariant.3 live_inside).valid c.temporal_before.result place));
+          (subst (λ (h : ℕ). IsValid c.self.inside.store.table h) (sym read) ((c.self.invariant.2 live_inside).valid c.temporal_before.result place));
       tree = tree;
       shape = (shown m c.args.k _ live c.requires.temporal tree).0;
       alike = (shown m c.args.k _ live c.requires.temporal tree).1;

@@ -30,14 +30,14 @@ returns c =
     let within = subst (λ (m : State). c.args.k ≤ length m.plan.subs) (sym c.self.view_is) c.requires.to in
     let live_inside = subst (λ (m : State). m.live ≡ true) (sym c.self.view_is) c.requires.live in
     let count = c.self.invariant.0.handle_count in
-    let first = c.self.invariant.2 in
+    let first = c.self.invariant.1 in
     let place : 2 * c.self.inside.remembered + c.args.k - 1 < length hs = omega (arith, count, first, within, c.requires.from) in
     let read = get_or_read hs (2 * c.self.inside.remembered + c.args.k - 1) c.index.result.now place c.index.ensures 0 in
     let tree = subst (λ (m : State). tree_of m.shelf.table c.index.result.now ≡ now_of m c.args.k) c.self.view_is
     (its_tree _ c.args.k c.index.result.now c.self.invariant.0 c.requires.from within (read ∙ ap (λ (n : ℕ). slice_index_or hs (2 * n + c.args.k - 1) 0) first)) in
-    let live : IsLive m = subst IsLive c.self.view_is (c.self.invariant.3 live_inside) in
+    let live : IsLive m = subst IsLive c.self.view_is (c.self.invariant.2 live_inside) in
     let valid = subst (λ (m : State). IsValid m.shelf.table c.index.result.now) c.self.view_is
-    (subst (λ (h : ℕ). IsValid c.self.inside.store.table h) (sym read) ((c.self.invariant.3 live_inside).valid _ place)) in
+    (subst (λ (h : ℕ). IsValid c.self.inside.store.table h) (sym read) ((c.self.invariant.2 live_inside).valid _ place)) in
     record {
       valid = valid;
       tree = tree;

@@ -1,4 +1,4 @@
-use Rattle.monitor_step.proofs.tests.answers_are_as_worked_by_hand.Given as goal
+use Rattle.monitor_tests.proofs.verdicts.answers_are_as_worked_by_hand.Given as goal
 
 -- the ledger is that of the blank
 abbrev pub ghosts-answers : goal.ghosts-answers

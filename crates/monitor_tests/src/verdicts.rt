@@ -2,82 +2,13 @@
 
 ghost use Rattle.std.specs.Prelude.{◌≡◌, ◌<◌};
 
-use super::*;
+use crate::made::{event, judge, open};
 use mon_base::Steps;
-use qtl_syntax::{Text, parse};
-use qtl_truth::Event;
-use sqlite_items::Items;
-use std::alloc::{AllocError, Global};
+use monitor_step::StepEnd;
+use std::alloc::Global;
 use std::marker::Brand;
 use std::sync::ledger::{Blank, Ledger};
 use std::test::Fail;
-use subformulas::{Plan, make_plan};
-use wellformed::{Core, can_be_numbered, check};
-
-/// The specification that the text spells, without macros.
-pub fn core_of(alloc: Global, text: &str) -> Result<Core, Fail> {
-    let spec = match parse(alloc, text.as_bytes()) {
-        Ok(spec) => spec,
-        Err(_fault) => return Err("no specification".into()),
-    };
-    if !can_be_numbered(&spec) {
-        return Err("too many items or nodes".into());
-    }
-    match check(alloc, spec) {
-        Ok(core) => Ok(core),
-        Err(_fault) => Err("names make no sense".into()),
-    }
-}
-
-/// A monitor of the plan, whose cache is as small as it may be but for 64 entries.
-pub fn open(alloc: Global, plan: Plan, bits: u8, nodes: u32) -> Result<Monitor, Fail> {
-    if plan.is_timed() || !plan.has_few_terms() {
-        return Err("the monitor doesn't take it".into());
-    }
-    if bits == 0 || bits > 20 || nodes < 2 || nodes > 4_194_304 {
-        return Err("no such sizes".into());
-    }
-    let cache = nodes.max(62) + 2;
-    let sizes = Sizes { bits, nodes, cache };
-    Ok(Monitor::open(alloc, plan, sizes)?)
-}
-
-/// Whether the first property holds at the event, or why that isn't judged.
-pub fn judge<L: Ledger>(
-    monitor: &mut Monitor,
-    event: &Event,
-    steps: &mut Steps<L>,
-) -> Result<Result<bool, StepEnd>, Fail> {
-    if !monitor.is_live() || monitor.events() == u64::MAX || event.time < monitor.last_time() {
-        return Err("the monitor takes no such event".into());
-    }
-    if let Err(end) = monitor.step(event, steps) {
-        return Ok(Err(end));
-    }
-    if monitor.events() == 0 || monitor.plan().props() == 0 {
-        return Err("nothing is judged".into());
-    }
-    Ok(Ok(monitor.verdict(0)))
-}
-
-fn text(alloc: Global, name: &str) -> Result<Text, AllocError> {
-    Text::from_bytes(alloc, name.as_bytes())
-}
-
-/// The event that a name and arguments with commas between them spell.
-fn event(alloc: Global, line: &str) -> Result<Event, AllocError> {
-    let mut parts = line.split(',');
-    let name = text(alloc, parts.next().unwrap_or(""))?;
-    let mut args = Items::new(alloc);
-    for part in parts {
-        args.push(text(alloc, part)?)?;
-    }
-    Ok(Event {
-        name,
-        args,
-        time: 0,
-    })
-}
 
 /// A specification with one property, the sizes of the monitor, and what is said of the events of a log.
 struct Case {
@@ -103,8 +34,7 @@ fn answers<L: Ledger>(
     requires some { 0 < L.parts }
 {
     let mut steps = Steps::<L>::new(blank);
-    let plan = make_plan(alloc, core_of(alloc, case.spec)?)?;
-    let mut monitor = open(alloc, plan, case.bits, case.nodes)?;
+    let mut monitor = open(alloc, case.spec, case.bits, case.nodes)?;
     let mut verdicts = String::new(alloc);
     for line in case.log.split(' ') {
         match judge(&mut monitor, &event(alloc, line)?, &mut steps)? {
@@ -117,6 +47,8 @@ fn answers<L: Ledger>(
 }
 
 const ACCESS: &str = "prop access : forall u . access(u) -> [login(u),logout(u))";
+
+const ANSWERED: &str = "prop t : forall x . ack(x) -> P[<=10] req(x)";
 
 const OPEN: &str = "pred open(x) = exists y . o(x,y) prop m : forall y . c(y) -> P open(y)";
 
@@ -289,6 +221,118 @@ const CASES: &[Case] = &[
         nodes: 1000,
         log: "p,a r idle p,b r",
         verdicts: "FTTFT",
+        end: None,
+    },
+    // Ten units after the request, and eleven.
+    Case {
+        spec: ANSWERED,
+        bits: 8,
+        nodes: 1000,
+        log: "req,a@100 ack,a@110 ack,a@111",
+        verdicts: "TTF",
+        end: None,
+    },
+    // An age tells a apart from b.
+    Case {
+        spec: ANSWERED,
+        bits: 1,
+        nodes: 1000,
+        log: "req,a@0 req,b@5",
+        verdicts: "T",
+        end: Some(StepEnd::CodesFull {
+            variable: 0,
+            need: 2,
+        }),
+    },
+    // The request of a is past its bound, so that b has the one code.
+    Case {
+        spec: ANSWERED,
+        bits: 1,
+        nodes: 2000,
+        log: "req,a@0 tick@20 req,b@21 ack,b@31 ack,b@32",
+        verdicts: "TTTTF",
+        end: None,
+    },
+    // The earliest support counts.
+    Case {
+        spec: "prop s : forall x . done(x) -> true S[>5] go(x)",
+        bits: 8,
+        nodes: 1000,
+        log: "go,a@0 go,a@4 done,a@6",
+        verdicts: "TTT",
+        end: None,
+    },
+    Case {
+        spec: "prop s : forall x . done(x) -> true S[>5] go(x)",
+        bits: 8,
+        nodes: 1000,
+        log: "go,a@0 done,a@5 done,a@6 done,b@9",
+        verdicts: "TFTF",
+        end: None,
+    },
+    // The latest support counts within a bound, and the left side ends it.
+    Case {
+        spec: "prop w : exists x . (! stop(x)) S[<=3] go(x)",
+        bits: 8,
+        nodes: 1000,
+        log: "go,a@0 go,a@2 tick@5 tick@6 go,a@6 stop,a@7 go,b@7",
+        verdicts: "TTTFTFT",
+        end: None,
+    },
+    Case {
+        spec: "prop h : H[>5] ok",
+        bits: 8,
+        nodes: 1000,
+        log: "ok@0 bad@1 ok@6 ok@7",
+        verdicts: "TTTF",
+        end: None,
+    },
+    Case {
+        spec: "prop h : H[<=5] ok",
+        bits: 8,
+        nodes: 1000,
+        log: "bad@0 ok@5 ok@6",
+        verdicts: "FFT",
+        end: None,
+    },
+    Case {
+        spec: "prop o : exists x . P[>2] p(x)",
+        bits: 8,
+        nodes: 1000,
+        log: "p,a@0 p,b@2 tick@2 tick@3",
+        verdicts: "FFFT",
+        end: None,
+    },
+    // Four bits spell an age of at most eleven, so the age 0 has four branches. While the table still needs them, the age 10
+    // has three more, since the last bit of both is 0.
+    Case {
+        spec: "prop o : P[<=10] p",
+        bits: 1,
+        nodes: 3,
+        log: "p",
+        verdicts: "",
+        end: Some(StepEnd::NodesFull {
+            subformula: 2,
+            row: 3,
+        }),
+    },
+    Case {
+        spec: "prop o : P[<=10] p",
+        bits: 1,
+        nodes: 4,
+        log: "p@0 q@10 q@11",
+        verdicts: "T",
+        end: Some(StepEnd::NodesFull {
+            subformula: 2,
+            row: 1,
+        }),
+    },
+    Case {
+        spec: "prop o : P[<=10] p",
+        bits: 1,
+        nodes: 8,
+        log: "p@0 q@10 q@11",
+        verdicts: "TTF",
         end: None,
     },
 ];

@@ -1,4 +1,4 @@
-use Rattle.monitor_step.proofs.compared_tests.verdicts_are_the_slow_truth.Given as goal
+use Rattle.monitor_tests.proofs.compared.verdicts_are_the_slow_truth.Given as goal
 
 -- the ledger is that of the blank
 abbrev pub ghosts-first_unlike_log : goal.ghosts-first_unlike_log

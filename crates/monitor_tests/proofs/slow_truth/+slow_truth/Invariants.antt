@@ -1,7 +1,7 @@
 use Rattle.std.proofs.Common.{◌+◌, ◌*◌}
 use Rattle.wellformed.specs.CoreTree.{core_of}
 use Rattle.wellformed.specs.Sound.{nodes}
-use Rattle.monitor_step.proofs.slow_truth.+slow_truth.Given as goal
+use Rattle.monitor_tests.proofs.slow_truth.+slow_truth.Given as goal
 
 abbrev pub decreases-truths : goal.decreases-truths
 decreases-truths l = 2 * nodes (core_of l.formula.now)

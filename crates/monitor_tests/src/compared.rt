@@ -3,7 +3,7 @@
 ghost use Rattle.std.specs.Prelude.{◌≡◌, ◌<◌, ◌≤◌};
 
 use crate::slow_truth::{holds, truths};
-use crate::tests::{core_of, judge, open};
+use crate::made::{core_of, judge, open};
 use mon_base::Steps;
 use qtl_syntax::Text;
 use qtl_truth::Event;
@@ -12,7 +12,6 @@ use std::alloc::{AllocError, Global};
 use std::marker::Brand;
 use std::sync::ledger::{Blank, Ledger};
 use std::test::Fail;
-use subformulas::make_plan;
 
 /// The texts of the events, and at last one that no event has.
 const TEXTS: &[&str] = &["a", "b", "c", "none"];
@@ -36,8 +35,8 @@ fn pick_text(alloc: Global, seed: &mut u32) -> Result<Text, AllocError> {
     Text::from_bytes(alloc, text.as_bytes())
 }
 
-/// An event p with one argument, or q with two.
-fn pick_event(alloc: Global, seed: &mut u32) -> Result<Event, AllocError> {
+/// An event p with one argument, or q with two, at this time.
+fn pick_event(alloc: Global, seed: &mut u32, time: u64) -> Result<Event, AllocError> {
     let is_p = pick(seed, 2) == 0;
     let mut args = Items::new(alloc);
     args.push(pick_text(alloc, seed)?)?;
@@ -48,17 +47,19 @@ fn pick_event(alloc: Global, seed: &mut u32) -> Result<Event, AllocError> {
     Ok(Event {
         name: Text::from_bytes(alloc, name.as_bytes())?,
         args,
-        time: 0,
+        time,
     })
 }
 
-/// One to six events.
+/// One to seven events, each at most three units after the one before.
 fn pick_log(alloc: Global, seed: u32) -> Result<Vec<Event>, AllocError> {
     let mut state = seed;
-    let count = 1 + pick(&mut state, 6);
+    let count = 1 + pick(&mut state, 7);
+    let mut time = 0_u64;
     let mut log = Vec::new(alloc);
     for _ in 0..count {
-        log.push(pick_event(alloc, &mut state)?)?;
+        time = time.saturating_add(pick(&mut state, 4) as u64);
+        log.push(pick_event(alloc, &mut state, time)?)?;
     }
     Ok(log)
 }
@@ -94,8 +95,7 @@ fn first_unlike<L: Ledger>(
     steps: &mut Steps<L>,
 ) -> Result<Option<usize>, Fail> {
     let slow = slow_truths(alloc, case.spec, log)?;
-    let plan = make_plan(alloc, core_of(alloc, case.spec)?)?;
-    let mut monitor = open(alloc, plan, case.bits, 4096)?;
+    let mut monitor = open(alloc, case.spec, case.bits, 4096)?;
     for (i, event) in log.iter().enumerate() {
         let want = holds(slow.as_slice(), i);
         if judge(&mut monitor, event, steps)? != Ok(want) {
@@ -152,6 +152,34 @@ const CASES: &[Case] = &[
     },
     Case {
         spec: "pred seen(x) = exists y . P q(x,y) prop g : exists x . forall y . seen(x) & (p(y) -> H ! q(y,\"c\"))",
+        bits: 3,
+    },
+    Case {
+        spec: "prop h : forall x . p(x) -> P[<=3] (exists y . q(y,x))",
+        bits: 3,
+    },
+    Case {
+        spec: "prop i : exists x . (! p(x)) S[<=4] q(x,\"b\")",
+        bits: 3,
+    },
+    Case {
+        spec: "prop j : forall x . H[<=2] (p(x) -> exists y . P[<=5] q(y,x))",
+        bits: 3,
+    },
+    Case {
+        spec: "prop k : exists x . (exists y . q(x,y)) S[>2] p(x)",
+        bits: 2,
+    },
+    Case {
+        spec: "prop l : forall x . p(x) -> P[>3] (exists y . q(x,y) | p(y))",
+        bits: 3,
+    },
+    Case {
+        spec: "prop m : forall x . p(x) -> H[>4] ! q(x,\"a\")",
+        bits: 3,
+    },
+    Case {
+        spec: "prop n : exists x . @ (P[<=2] p(x)) & ! P[>3] q(x,x)",
         bits: 3,
     },
 ];

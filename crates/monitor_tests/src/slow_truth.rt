@@ -1,6 +1,6 @@
 //! Truth found from its definition at each position of a log: slow and plain, a yardstick for the monitor.
 
-use qtl_syntax::Text;
+use qtl_syntax::{Bound, Text};
 use qtl_truth::{Atom, AtomTerm, Event};
 use std::alloc::{AllocError, Global};
 use subformulas::Kind;
@@ -31,19 +31,34 @@ fn never_from(truths: &[bool], j: usize, i: usize) -> bool {
     true
 }
 
+/// How long position i is after position j; 0 behind the last one.
+fn age(log: &[Event], j: usize, i: usize) -> u64 {
+    match (log.get(i), log.get(j)) {
+        (Some(now), Some(then)) => now.time.saturating_sub(then.time),
+        _ => 0,
+    }
+}
+
 /// Whether position j makes an operator true at position i, where its operands have these truths.
-fn is_support(kind: &Kind, f: &[bool], g: &[bool], j: usize, i: usize) -> bool {
+fn is_support(kind: &Kind, f: &[bool], g: &[bool], log: &[Event], j: usize, i: usize) -> bool {
+    let since = holds(g, j) && holds_after(f, j, i);
     match kind {
-        Kind::Since => holds(g, j) && holds_after(f, j, i),
+        Kind::Since => since,
+        Kind::SinceAtMost(n) => since && age(log, j, i) <= *n as u64,
+        Kind::SinceMoreThan(n) => since && age(log, j, i) > *n as u64,
+        Kind::OnceAtMost(n) => holds(f, j) && age(log, j, i) <= *n as u64,
+        Kind::OnceMoreThan(n) => holds(f, j) && age(log, j, i) > *n as u64,
+        Kind::AlwaysAtMost(n) => !holds(f, j) && age(log, j, i) <= *n as u64,
+        Kind::AlwaysMoreThan(n) => !holds(f, j) && age(log, j, i) > *n as u64,
         Kind::Interval => holds(f, j) && never_from(g, j, i),
         _ => holds(f, j),
     }
 }
 
-/// Whether some position up to i makes an operator true there.
-fn has_support(kind: &Kind, f: &[bool], g: &[bool], i: usize) -> bool {
+/// Whether some position up to i makes an operator true there, or, of an `H` with a bound, false.
+fn has_support(kind: &Kind, f: &[bool], g: &[bool], log: &[Event], i: usize) -> bool {
     for j in 0..=i {
-        if is_support(kind, f, g, j, i) {
+        if is_support(kind, f, g, log, j, i) {
             return true;
         }
     }
@@ -51,7 +66,7 @@ fn has_support(kind: &Kind, f: &[bool], g: &[bool], i: usize) -> bool {
 }
 
 /// Whether an operator is true at position i, where its operands have these truths.
-fn is_true(kind: &Kind, f: &[bool], g: &[bool], i: usize) -> bool {
+fn is_true(kind: &Kind, f: &[bool], g: &[bool], log: &[Event], i: usize) -> bool {
     match kind {
         Kind::True => true,
         Kind::Not => !holds(f, i),
@@ -61,22 +76,23 @@ fn is_true(kind: &Kind, f: &[bool], g: &[bool], i: usize) -> bool {
         Kind::Iff => holds(f, i) == holds(g, i),
         Kind::Prev => i > 0 && holds(f, i - 1),
         Kind::Always => holds(f, 0) && holds_after(f, 0, i),
-        Kind::Since | Kind::Once | Kind::Interval => has_support(kind, f, g, i),
-        _ => false,
+        Kind::AlwaysAtMost(_) | Kind::AlwaysMoreThan(_) => !has_support(kind, f, g, log, i),
+        Kind::False => false,
+        _ => has_support(kind, f, g, log, i),
     }
 }
 
-/// An operator's truths at so many positions, where its operands have these.
+/// An operator's truths at the positions of the log, where its operands have these.
 fn operator(
     alloc: Global,
     kind: &Kind,
     f: &[bool],
     g: &[bool],
-    count: usize,
+    log: &[Event],
 ) -> Result<Vec<bool>, AllocError> {
     let mut truths = Vec::new(alloc);
-    for i in 0..count {
-        truths.push(is_true(kind, f, g, i))?;
+    for i in 0..log.len() {
+        truths.push(is_true(kind, f, g, log, i))?;
     }
     Ok(truths)
 }
@@ -125,9 +141,29 @@ fn atom_truths(
     Ok(truths)
 }
 
+fn since_kind(bound: Bound) -> Kind {
+    match bound {
+        Bound::AtMost(n) => Kind::SinceAtMost(n),
+        Bound::MoreThan(n) => Kind::SinceMoreThan(n),
+    }
+}
+
+fn once_kind(bound: Bound) -> Kind {
+    match bound {
+        Bound::AtMost(n) => Kind::OnceAtMost(n),
+        Bound::MoreThan(n) => Kind::OnceMoreThan(n),
+    }
+}
+
+fn always_kind(bound: Bound) -> Kind {
+    match bound {
+        Bound::AtMost(n) => Kind::AlwaysAtMost(n),
+        Bound::MoreThan(n) => Kind::AlwaysMoreThan(n),
+    }
+}
+
 /// The formula's truths at all positions of the log, where each variable x has the text of number `given[x]`. Quantifiers
-/// go over the texts: those of the log and one that no event has, since an atom tells no two such texts apart. Timed
-/// operators are false.
+/// go over the texts: those of the log and one that no event has, since an atom tells no two such texts apart.
 #[cycle(slow_truth)]
 pub fn truths(
     alloc: Global,
@@ -137,7 +173,7 @@ pub fn truths(
     given: &mut Vec<usize>,
 ) -> Result<Vec<bool>, AllocError> {
     match formula {
-        CoreFormula::True => operator(alloc, &Kind::True, &[], &[], log.len()),
+        CoreFormula::True => operator(alloc, &Kind::True, &[], &[], log),
         CoreFormula::Atom(atom) => atom_truths(alloc, atom, log, texts, given.as_slice()),
         CoreFormula::Not(f) => unary(alloc, Kind::Not, f, log, texts, given),
         CoreFormula::Prev(f) => unary(alloc, Kind::Prev, f, log, texts, given),
@@ -151,10 +187,12 @@ pub fn truths(
         CoreFormula::Interval(f, g) => binary(alloc, Kind::Interval, f, g, log, texts, given),
         CoreFormula::Exists(x, f) => over_texts(alloc, Kind::Or, *x, f, log, texts, given),
         CoreFormula::Forall(x, f) => over_texts(alloc, Kind::And, *x, f, log, texts, given),
-        CoreFormula::False
-        | CoreFormula::TimedSince(_, _, _)
-        | CoreFormula::TimedOnce(_, _)
-        | CoreFormula::TimedAlways(_, _) => operator(alloc, &Kind::False, &[], &[], log.len()),
+        CoreFormula::TimedSince(b, f, g) => {
+            binary(alloc, since_kind(*b), f, g, log, texts, given)
+        }
+        CoreFormula::TimedOnce(b, f) => unary(alloc, once_kind(*b), f, log, texts, given),
+        CoreFormula::TimedAlways(b, f) => unary(alloc, always_kind(*b), f, log, texts, given),
+        CoreFormula::False => operator(alloc, &Kind::False, &[], &[], log),
     }
 }
 
@@ -169,7 +207,7 @@ fn unary(
     given: &mut Vec<usize>,
 ) -> Result<Vec<bool>, AllocError> {
     let f = truths(alloc, formula, log, texts, given)?;
-    operator(alloc, &kind, f.as_slice(), &[], log.len())
+    operator(alloc, &kind, f.as_slice(), &[], log)
 }
 
 /// The truths of an operator over two.
@@ -185,7 +223,7 @@ fn binary(
 ) -> Result<Vec<bool>, AllocError> {
     let f = truths(alloc, f, log, texts, given)?;
     let g = truths(alloc, g, log, texts, given)?;
-    operator(alloc, &kind, f.as_slice(), g.as_slice(), log.len())
+    operator(alloc, &kind, f.as_slice(), g.as_slice(), log)
 }
 
 /// The truths of a quantifier: those of its formula under each of the texts, joined by "or" or by "and".
@@ -203,13 +241,13 @@ fn over_texts(
         Kind::And => Kind::True,
         _ => Kind::False,
     };
-    let mut joined = operator(alloc, &none, &[], &[], log.len())?;
+    let mut joined = operator(alloc, &none, &[], &[], log)?;
     for number in 0..texts.len() {
         if let Some(place) = given.get_mut(variable as usize) {
             *place = number;
         }
         let one = truths(alloc, formula, log, texts, given)?;
-        joined = operator(alloc, &kind, joined.as_slice(), one.as_slice(), log.len())?;
+        joined = operator(alloc, &kind, joined.as_slice(), one.as_slice(), log)?;
     }
     Ok(joined)
 }
