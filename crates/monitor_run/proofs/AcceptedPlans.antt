@@ -1,26 +1,22 @@
 -- The table of an accepted specification is one that the monitor takes.
-use Rattle.std.proofs.Common.{◌≡◌, ℕ, ◌+◌, List, [], ◌∷◌, ◌++◌, length, length-append, refl, sym, ap, ◌∙◌, arith, Bool, true, false, ◌||◌, IsTrue, None}
+use Rattle.std.proofs.Common.{◌≡◌, ℕ, ◌+◌, List, [], ◌∷◌, ◌++◌, length, length-append, refl, sym, ap, ◌∙◌, arith, Bool, true, false, IsTrue}
 use Rattle.std.proofs.lemmas.List.{length-map}
-use Rattle.std.specs.Prelude.{bytes_eq, if◌then◌else◌}
-use Rattle.std.specs.List.{range_with_len, AllByRecursion}
+use Rattle.std.specs.Prelude.{bytes_eq, if◌then◌else◌, Option, Some, None}
+use Rattle.std.specs.List.{range_with_len}
 use Rattle.qtl_syntax.specs.Tree.{Text, Formula, True, False, Atom, Not, And, Or, Implies, Iff, Prev, Since, TimedSince, Once, TimedOnce, Always, TimedAlways, Interval, Exists, Forall, Item, Pred, Prop}
+use Rattle.qtl_syntax.specs.Lawful.{are_lawful}
+use Rattle.qtl_syntax.proofs.LawfulTree.{good, lawful_items}
+use Rattle.wellformed.specs.CoreTree.{CoreFormula}
 use Rattle.wellformed.specs.declared.core_formula.Variable.{Variable}
-use Rattle.wellformed.specs.declared.fault.NameFault.TheVariants.{LateMacro, MacroArity, ArityClash, FreeVariable}
-use Rattle.wellformed.specs.Expansion.{AreClosed, quantifiers_in, call_quantifiers, quantifiers, names_in, call_names, quantifier_names, expansion, expanded_props, props_quantifiers, variables_named, props_variables}
-use Rattle.wellformed.specs.Faults.{arity_pass, at_item, at_node, clash_pass, duplicate_from, first_count, first_fault, first_in, first_name, free_pass, late_pass}
-use Rattle.wellformed.specs.Sound.{is_closed, variables_bound, are_closed}
-use Rattle.wellformed.proofs.Accepted.{first_item, item_closed, neither, no_node}
-use Rattle.wellformed.proofs.Sound.{and_true, both_bound, expansion_numbers, expansion_closed}
-use Rattle.subformulas.proofs.NumberedRows.{all_table, all_uses}
-use Rattle.subformulas.specs.Table.{HasLawfulBound, is_timed}
-use Rattle.subformulas.specs.declared.table.Kind.{Kind}
-use Rattle.subformulas.specs.declared.table.Kind.TheVariants as kind
-use Rattle.subformulas.specs.declared.table.Sub.{Sub}
+use Rattle.wellformed.specs.Expansion.{quantifiers_in, call_quantifiers, names_in, call_names, quantifier_names, expanded_props, props_quantifiers, variables_named, props_variables}
+use Rattle.wellformed.specs.Faults.{first_count, first_name}
+use Rattle.wellformed.proofs.Accepted.{neither}
+use Rattle.wellformed.proofs.SoundProps.{accepted_sound}
+use Rattle.subformulas.proofs.NumberedRows.{all_table, all_uses, bounds_of}
 use Rattle.monitor_model.specs.Stands.{IsPlan}
-use Rattle.monitor_run.specs.Answer.{IsBuilt}
-use Rattle.monitor_run.specs.Stops.{setting_in, table_in, variables_in}
+use Rattle.monitor_run.specs.Answer.{Accepts, Spells}
+use Rattle.monitor_run.specs.Stops.{setting_in, variables_in}
 use Rattle.monitor_run.specs.declared.limits.Limits.{Limits}
-use Rattle.monitor_run.proofs.Untimed.{all_timed, any_timed}
 
 -- a variable for each quantifier
 both_count : (xs ys : List Text) (a b : ℕ) → length xs ≡ a → length ys ≡ b → length (xs ++ ys) ≡ a + b
@@ -73,66 +69,16 @@ variables_count before p (Prop name body ∷ items) =
     let later = variables_count (Prop name body ∷ before) (p + 1) items in
     omega (arith, length-append (variables_named p (quantifier_names before body)) (props_variables (Prop name body ∷ before) (p + 1) items), own, named, later)
 
--- the quantifiers of the properties bind the variables in their order
-props_numbers : (before items : List Item) (next : ℕ) → variables_bound (expanded_props before next items) ≡ range_with_len next (props_quantifiers before items)
-props_numbers before [] next = refl
-props_numbers before (Pred name params body ∷ items) next = props_numbers (Pred name params body ∷ before) items next
-props_numbers before (Prop name body ∷ items) next =
-    both_bound _ _ next _ _ (expansion_numbers before [] next body) (props_numbers (Prop name body ∷ before) items (next + quantifiers before body))
+-- what is spelled within the limits is lawful
+lawful_spelled : (spec : Option Text) (items : List Item) → Spells spec items → IsTrue (are_lawful items)
+lawful_spelled (Some text) items (_, (ts, cut, spelled, clear)) = lawful_items 256 ts items spelled (good text ts [] cut clear)
+lawful_spelled None items spelled = absurd spelled
 
-in_order : (items : List Item) → variables_bound (expanded_props [] 0 items) ≡ range_with_len 0 (length (variables_in items))
-in_order items = props_numbers [] items 0 ∙ ap (range_with_len 0) (sym (variables_count [] 0 items))
-
--- and each variable is bound
-props_closed : (before items : List Item) (n m next : ℕ) → AreClosed before → first_in free_pass before n items ≡ None → first_in arity_pass before m items ≡ None →
-    IsTrue (are_closed (expanded_props before next items))
-props_closed before [] n m next c p q = refl
-props_closed before (Pred name params body ∷ items) n m next c p q =
-    let a = first_item (free_pass before (Pred name params body) items) n _ p in
-    let b = first_item (arity_pass before (Pred name params body) items) m _ q in
-    let k = item_closed before (Pred name params body) a.0 b.0 in
-    props_closed (Pred name params body ∷ before) items (n + 1) (m + 1) next (k, c) a.1 b.1
-props_closed before (Prop name body ∷ items) n m next c p q =
-    let a = first_item (free_pass before (Prop name body) items) n _ p in
-    let b = first_item (arity_pass before (Prop name body) items) m _ q in
-    let k = item_closed before (Prop name body) a.0 b.0 in
-    and_true (is_closed [] (expansion before [] next body)) _ (expansion_closed before next body c k)
-    (props_closed (Prop name body ∷ before) items (n + 1) (m + 1) (next + quantifiers before body) c a.1 b.1)
-
-all_bound : (items : List Item) → first_fault items ≡ None → IsTrue (are_closed (expanded_props [] 0 items))
-all_bound items clear =
-    let names = (neither (first_name items) (first_count items) clear).0 in
-    let a = neither (at_item (duplicate_from [] 0 items)) _ names in
-    let b = neither (at_node LateMacro (first_in late_pass [] 0 items)) _ a.1 in
-    let c = neither (at_node MacroArity (first_in arity_pass [] 0 items)) _ b.1 in
-    let d = neither (at_node ArityClash (first_in clash_pass [] 0 items)) _ c.1 in
-    props_closed [] items 0 0 0 tt (no_node FreeVariable _ d.1) (no_node MacroArity _ c.0)
-
-lawful_kind : (k : Kind) → is_timed k ≡ false → HasLawfulBound k
-lawful_kind (kind.SinceAtMost n) e = absurd (cc)
-lawful_kind (kind.SinceMoreThan n) e = absurd (cc)
-lawful_kind (kind.OnceAtMost n) e = absurd (cc)
-lawful_kind (kind.OnceMoreThan n) e = absurd (cc)
-lawful_kind (kind.AlwaysAtMost n) e = absurd (cc)
-lawful_kind (kind.AlwaysMoreThan n) e = absurd (cc)
-lawful_kind _ e = tt
-
--- without timed operators no bound is too large
-lawful_bounds : (subs : List Sub) → any_timed subs ≡ false → AllByRecursion (λ u. HasLawfulBound u.kind) subs
-lawful_bounds [] e = tt
-lawful_bounds (u ∷ subs) e =
-    let parts = neither_timed (is_timed u.kind) (any_timed subs) e in
-    (lawful_kind u.kind parts.0, lawful_bounds subs parts.1)
-  where
-    neither_timed : (a b : Bool) → (a || b) ≡ false → (a ≡ false) × (b ≡ false)
-    neither_timed true b e = absurd (cc)
-    neither_timed false b e = (refl, e)
-
--- the table of accepted items without timed operators
-pub accepted_plan : (limits : Limits) (items : List Item) → first_fault items ≡ None → IsBuilt items → IsPlan (setting_in limits items)
-accepted_plan limits items clear built =
-    record {
-      table = all_table 0 (expanded_props [] 0 items);
-      uses = all_uses (length (variables_in items)) (expanded_props [] 0 items) (in_order items) (all_bound items clear);
-      bounds = lawful_bounds (table_in items) (all_timed 0 (expanded_props [] 0 items) ∙ built);
-    }
+-- the table of accepted items
+pub accepted_plan : (limits : Limits) (spec : Option Text) (items : List Item) → Accepts spec items → IsPlan (setting_in limits items)
+accepted_plan limits spec items accepted =
+    let props : List (Text × CoreFormula) = expanded_props [] 0 items in
+    let names = neither (first_name items) (first_count items) accepted.clear in
+    let sound = accepted_sound items names.0 names.1 (lawful_spelled spec items accepted.spelled) in
+    let in_order = sound.in_order ∙ ap (range_with_len 0) (sym (variables_count [] 0 items)) in
+    record { table = all_table 0 props; uses = all_uses (length (variables_in items)) props in_order sound.closed; bounds = bounds_of props sound.bounds }

@@ -9,7 +9,7 @@ use Rattle.monitor_run.specs.Files.{Gained, GainedFront, Opens, OpensOne, Hurts,
 use Rattle.monitor_run.specs.Last.{Sends, Finishes}
 use Rattle.monitor_run.specs.Specification.{IsUnspelled, SpecRefused}
 use Rattle.monitor_run.specs.declared.end.End.{End}
-use Rattle.monitor_run.specs.declared.end.End.TheVariants.{AllTrue, Violated, Usage, SpecTooLong, Spec, Names, NotBuilt, Log, LogTooLong, CodesFull, NodesFull, OpenFault, ReadFault, WriteFault, NoMemory}
+use Rattle.monitor_run.specs.declared.end.End.TheVariants.{AllTrue, Violated, Usage, SpecTooLong, Spec, Names, Log, LogTooLong, CodesFull, NodesFull, OpenFault, ReadFault, WriteFault, NoMemory}
 use Rattle.monitor_run.specs.declared.end.Which.TheVariants as file
 
 -- Lists that are told
@@ -63,7 +63,6 @@ one_asked name Usage a b h = front_all a b (name ∷ []) h
 one_asked name SpecTooLong a b h = front_all a b (name ∷ []) h
 one_asked name (Spec fault) a b h = front_all a b (name ∷ []) h
 one_asked name (Names fault) a b h = front_all a b (name ∷ []) h
-one_asked name NotBuilt a b h = front_all a b (name ∷ []) h
 one_asked name (Log fault) a b h = front_all a b (name ∷ []) h
 one_asked name (LogTooLong most) a b h = front_all a b (name ∷ []) h
 one_asked name (CodesFull event variable need) a b h = front_all a b (name ∷ []) h
@@ -82,7 +81,6 @@ one_hurt Usage a b hurt reading failed h = tt
 one_hurt SpecTooLong a b hurt reading failed h = tt
 one_hurt (Spec fault) a b hurt reading failed h = tt
 one_hurt (Names fault) a b hurt reading failed h = tt
-one_hurt NotBuilt a b hurt reading failed h = tt
 one_hurt (Log fault) a b hurt reading failed h = tt
 one_hurt (LogTooLong most) a b hurt reading failed h = tt
 one_hurt (CodesFull event variable need) a b hurt reading failed h = tt
@@ -111,7 +109,6 @@ both_opened spec log Usage a b c known h k = absurd known
 both_opened spec log SpecTooLong a b c known h k = absurd known
 both_opened spec log (Spec fault) a b c known h k = absurd known
 both_opened spec log (Names fault) a b c known h k = absurd known
-both_opened spec log NotBuilt a b c known h k = absurd known
 both_opened spec log (Log fault) a b c known h k = front_behind a b c (spec ∷ []) (log ∷ []) h k
 both_opened spec log (LogTooLong most) a b c known h k = front_behind a b c (spec ∷ []) (log ∷ []) h k
 both_opened spec log (CodesFull event variable need) a b c known h k = front_behind a b c (spec ∷ []) (log ∷ []) h k
@@ -130,7 +127,6 @@ both_hurt Usage a b c spec known h k = tt
 both_hurt SpecTooLong a b c spec known h k = tt
 both_hurt (Spec fault) a b c spec known h k = tt
 both_hurt (Names fault) a b c spec known h k = tt
-both_hurt NotBuilt a b c spec known h k = tt
 both_hurt (Log fault) a b c spec known h k = tt
 both_hurt (LogTooLong most) a b c spec known h k = tt
 both_hurt (CodesFull event variable need) a b c spec known h k = tt
@@ -150,7 +146,6 @@ refused_opened t rose spec log Usage a b r h = absurd r
 refused_opened t rose spec log SpecTooLong a b r h = front_more a b (spec ∷ []) (log ∷ []) h
 refused_opened t rose spec log (Spec fault) a b r h = front_more a b (spec ∷ []) (log ∷ []) h
 refused_opened t rose spec log (Names fault) a b r h = front_more a b (spec ∷ []) (log ∷ []) h
-refused_opened t rose spec log NotBuilt a b r h = front_more a b (spec ∷ []) (log ∷ []) h
 refused_opened t rose spec log (Log fault) a b r h = absurd r
 refused_opened t rose spec log (LogTooLong most) a b r h = absurd r
 refused_opened t rose spec log (CodesFull event variable need) a b r h = absurd r
@@ -169,7 +164,6 @@ refused_hurt t rose spec Usage a b r h = tt
 refused_hurt t rose spec SpecTooLong a b r h = tt
 refused_hurt t rose spec (Spec fault) a b r h = tt
 refused_hurt t rose spec (Names fault) a b r h = tt
-refused_hurt t rose spec NotBuilt a b r h = tt
 refused_hurt t rose spec (Log fault) a b r h = tt
 refused_hurt t rose spec (LogTooLong most) a b r h = tt
 refused_hurt t rose spec (CodesFull event variable need) a b r h = tt
@@ -187,7 +181,6 @@ unspelled_hurt text Usage a b r = tt
 unspelled_hurt text SpecTooLong a b r = tt
 unspelled_hurt text (Spec fault) a b r = tt
 unspelled_hurt text (Names fault) a b r = tt
-unspelled_hurt text NotBuilt a b r = tt
 unspelled_hurt text (Log fault) a b r = tt
 unspelled_hurt text (LogTooLong most) a b r = tt
 unspelled_hurt text (CodesFull event variable need) a b r = tt
@@ -209,7 +202,6 @@ any_front (spec ∷ log ∷ []) Usage a b h = h
 any_front (spec ∷ log ∷ []) SpecTooLong a b h = h
 any_front (spec ∷ log ∷ []) (Spec fault) a b h = h
 any_front (spec ∷ log ∷ []) (Names fault) a b h = h
-any_front (spec ∷ log ∷ []) NotBuilt a b h = h
 any_front (spec ∷ log ∷ []) (Log fault) a b h = h
 any_front (spec ∷ log ∷ []) (LogTooLong most) a b h = h
 any_front (spec ∷ log ∷ []) (CodesFull event variable need) a b h = h
@@ -240,7 +232,6 @@ finish_end out_rose w1 w2 held Usage end events name f = sends_end out_rose w1 w
 finish_end out_rose w1 w2 held SpecTooLong end events name f = sends_end out_rose w1 w2 _ SpecTooLong end f
 finish_end out_rose w1 w2 held (Spec fault) end events name f = sends_end out_rose w1 w2 _ (Spec fault) end f
 finish_end out_rose w1 w2 held (Names fault) end events name f = sends_end out_rose w1 w2 _ (Names fault) end f
-finish_end out_rose w1 w2 held NotBuilt end events name f = sends_end out_rose w1 w2 _ NotBuilt end f
 finish_end out_rose w1 w2 held (Log fault) end events name f = sends_end out_rose w1 w2 _ (Log fault) end f
 finish_end out_rose w1 w2 held (LogTooLong most) end events name f = sends_end out_rose w1 w2 _ (LogTooLong most) end f
 finish_end out_rose w1 w2 held (CodesFull event variable need) end events name f = sends_end out_rose w1 w2 _ (CodesFull event variable need) end f

@@ -10,11 +10,12 @@ use Rattle.monitor_run.specs.Naming.{IsReachedAt, TellsName}
 use Rattle.monitor_run.specs.Reading.{LogReached, LogTold, Reaches}
 use Rattle.monitor_run.specs.Records.{records}
 use Rattle.monitor_run.specs.Specification.{SpecRead, SpecRefused}
+use Rattle.monitor_run.specs.Verdicts.{is_timed}
 use Rattle.monitor_run.specs.declared.judge.Judge.{Judge}
 use Rattle.monitor_run.specs.declared.limits.Limits.{Limits}
 use Rattle.monitor_run.specs.declared.session.Reached.{Reached}
 use Rattle.monitor_run.specs.declared.end.End.{End}
-use Rattle.monitor_run.specs.declared.end.End.TheVariants.{AllTrue, Violated, Usage, SpecTooLong, Spec, Names, NotBuilt, Log, LogTooLong, CodesFull, NodesFull, OpenFault, ReadFault, WriteFault, NoMemory}
+use Rattle.monitor_run.specs.declared.end.End.TheVariants.{AllTrue, Violated, Usage, SpecTooLong, Spec, Names, Log, LogTooLong, CodesFull, NodesFull, OpenFault, ReadFault, WriteFault, NoMemory}
 use Rattle.monitor_run.specs.declared.end.Which.TheVariants as file
 use Rattle.monitor_run.proofs.Passages.{passes_none}
 
@@ -31,7 +32,6 @@ body_as Usage limits items all unread unread' events body f h = h
 body_as SpecTooLong limits items all unread unread' events body f h = h
 body_as (Spec fault) limits items all unread unread' events body f h = h
 body_as (Names fault) limits items all unread unread' events body f h = h
-body_as NotBuilt limits items all unread unread' events body f h = h
 body_as (Log fault) limits items all unread unread' events body f h = h
 body_as (LogTooLong most) limits items all unread unread' events body f h = h
 body_as (CodesFull event variable need) limits items all unread unread' events body f h = h
@@ -52,7 +52,6 @@ reached_told limits items all unread left w0 w1 held Usage events f (body, h, pa
 reached_told limits items all unread left w0 w1 held SpecTooLong events f (body, h, passed) = (body, body_as SpecTooLong limits items all (λ rest. left ≡ Some rest) unread events body f h, passed)
 reached_told limits items all unread left w0 w1 held (Spec fault) events f (body, h, passed) = (body, body_as (Spec fault) limits items all (λ rest. left ≡ Some rest) unread events body f h, passed)
 reached_told limits items all unread left w0 w1 held (Names fault) events f (body, h, passed) = (body, body_as (Names fault) limits items all (λ rest. left ≡ Some rest) unread events body f h, passed)
-reached_told limits items all unread left w0 w1 held NotBuilt events f (body, h, passed) = (body, body_as NotBuilt limits items all (λ rest. left ≡ Some rest) unread events body f h, passed)
 reached_told limits items all unread left w0 w1 held (Log fault) events f (body, h, passed) = (body, body_as (Log fault) limits items all (λ rest. left ≡ Some rest) unread events body f h, passed)
 reached_told limits items all unread left w0 w1 held (LogTooLong most) events f (body, h, passed) = (body, body_as (LogTooLong most) limits items all (λ rest. left ≡ Some rest) unread events body f h, passed)
 reached_told limits items all unread left w0 w1 held (CodesFull event variable need) events f (body, h, passed) = (body, body_as (CodesFull event variable need) limits items all (λ rest. left ≡ Some rest) unread events body f h, passed)
@@ -71,9 +70,9 @@ opened_told limits (Some texts) name items unread left0 left w0 w1 held end even
 
 -- the events before the one whose codes are full stand at the front of the log's
 stopped_front : (limits : Limits) (items : List Item) (all : Text) (event : ℕ) (why : event_end.End) (events : ℕ) (body : Text) → StoppedLog limits items all event why events body →
-    IsFrontOfLines limits items all body × (events ≤ length (records limits.log all).events)
+    IsFrontOfLines limits items all body × (events ≤ length (records limits.log (is_timed items) all).events)
 stopped_front limits items all event why events body (s, violations, judged) =
-    let n : length (records limits.log all).events ≡ length s.log + length (s.event ∷ s.later) = ap (λ (l : List Event). length l) s.split ∙ length-append s.log (s.event ∷ s.later) in (
+    let n : length (records limits.log (is_timed items) all).events ≡ length s.log + length (s.event ∷ s.later) = ap (λ (l : List Event). length l) s.split ∙ length-append s.log (s.event ∷ s.later) in (
       record { log = s.log; later = s.event ∷ s.later; rows = judged.rows; more = []; first = s.split; fits = judged.fits; right = judged.right; written = append-nil body ∙ judged.written },
       omega (arith, n, judged.counted),
     )
@@ -90,7 +89,6 @@ nameless limits items all left w0 w1 held Usage events told h = absurd told
 nameless limits items all left w0 w1 held SpecTooLong events told h = absurd told
 nameless limits items all left w0 w1 held (Spec fault) events told h = absurd told
 nameless limits items all left w0 w1 held (Names fault) events told h = absurd told
-nameless limits items all left w0 w1 held NotBuilt events told h = absurd told
 nameless limits items all left w0 w1 held (Log fault) events told h = absurd told
 nameless limits items all left w0 w1 held (LogTooLong most) events told h = absurd told
 nameless limits items all left w0 w1 held (OpenFault which) events told h = absurd told
@@ -133,7 +131,6 @@ told_as limits items log unread unread' w0 w1 held Usage events f (body, h, pass
 told_as limits items log unread unread' w0 w1 held SpecTooLong events f (body, h, passed) = (body, some_as SpecTooLong limits items log unread unread' events body f h, passed)
 told_as limits items log unread unread' w0 w1 held (Spec fault) events f (body, h, passed) = (body, some_as (Spec fault) limits items log unread unread' events body f h, passed)
 told_as limits items log unread unread' w0 w1 held (Names fault) events f (body, h, passed) = (body, some_as (Names fault) limits items log unread unread' events body f h, passed)
-told_as limits items log unread unread' w0 w1 held NotBuilt events f (body, h, passed) = (body, some_as NotBuilt limits items log unread unread' events body f h, passed)
 told_as limits items log unread unread' w0 w1 held (Log fault) events f (body, h, passed) = (body, some_as (Log fault) limits items log unread unread' events body f h, passed)
 told_as limits items log unread unread' w0 w1 held (LogTooLong most) events f (body, h, passed) = (body, some_as (LogTooLong most) limits items log unread unread' events body f h, passed)
 told_as limits items log unread unread' w0 w1 held (CodesFull event variable need) events f (body, h, passed) = (body, some_as (CodesFull event variable need) limits items log unread unread' events body f h, passed)
@@ -163,7 +160,6 @@ body_told limits texts spec log unread rose w0 w1 held items Usage events a (bod
 body_told limits texts spec log unread rose w0 w1 held items SpecTooLong events a (body, h, passed) = absurd (never (text_of texts log) h)
 body_told limits texts spec log unread rose w0 w1 held items (Spec fault) events a (body, h, passed) = absurd (never (text_of texts log) h)
 body_told limits texts spec log unread rose w0 w1 held items (Names fault) events a (body, h, passed) = absurd (never (text_of texts log) h)
-body_told limits texts spec log unread rose w0 w1 held items NotBuilt events a (body, h, passed) = absurd (never (text_of texts log) h)
 body_told limits texts spec log unread rose w0 w1 held items (Log fault) events a (body, h, passed) = (body, checked limits (Log fault) _ _ items unread events body a h, passed)
 body_told limits texts spec log unread rose w0 w1 held items (LogTooLong most) events a (body, h, passed) = (body, checked limits (LogTooLong most) _ _ items unread events body a h, passed)
 body_told limits texts spec log unread rose w0 w1 held items (CodesFull event variable need) events a (body, h, passed) = (body, checked limits (CodesFull event variable need) _ _ items unread events body a h, passed)
@@ -192,7 +188,6 @@ refused_told limits (Some texts) spec log unread rose w held Usage none r = absu
 refused_told limits (Some texts) spec log unread rose w held SpecTooLong none r = rw none ([], (r, refl), passes_none w [])
 refused_told limits (Some texts) spec log unread rose w held (Spec fault) none r = rw none ([], (r, refl), passes_none w [])
 refused_told limits (Some texts) spec log unread rose w held (Names fault) none r = rw none ([], (r, refl), passes_none w [])
-refused_told limits (Some texts) spec log unread rose w held NotBuilt none r = rw none ([], (r, refl), passes_none w [])
 refused_told limits (Some texts) spec log unread rose w held (Log fault) none r = absurd r
 refused_told limits (Some texts) spec log unread rose w held (LogTooLong limit) none r = absurd r
 refused_told limits (Some texts) spec log unread rose w held (CodesFull event variable need) none r = absurd r

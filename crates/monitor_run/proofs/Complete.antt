@@ -9,16 +9,17 @@ use Rattle.monitor_model.specs.Ends as event_end
 use Rattle.monitor_run.specs.Answer.{Accepts, Checked, HasFaultCause, IsClear, IsDecided, IsWhole, LogBody, StoppedLog, Writes}
 use Rattle.monitor_run.specs.Records.{records, IsFaultAt}
 use Rattle.monitor_run.specs.Stops.{AllFit}
+use Rattle.monitor_run.specs.Verdicts.{is_timed}
 use Rattle.monitor_run.specs.declared.limits.Limits.{Limits}
 use Rattle.monitor_run.specs.declared.end.End.{End}
-use Rattle.monitor_run.specs.declared.end.End.TheVariants.{AllTrue, Violated, Usage, SpecTooLong, Spec, Names, NotBuilt, Log, LogTooLong, CodesFull, NodesFull, OpenFault, ReadFault, WriteFault, NoMemory}
+use Rattle.monitor_run.specs.declared.end.End.TheVariants.{AllTrue, Violated, Usage, SpecTooLong, Spec, Names, Log, LogTooLong, CodesFull, NodesFull, OpenFault, ReadFault, WriteFault, NoMemory}
 use Rattle.monitor_run.proofs.AcceptedPlans.{accepted_plan}
 use Rattle.monitor_run.proofs.OneReport.{accepted_or_refused, never_stops, some_of}
 use Rattle.monitor_run.proofs.OneSpelled.{OneAnswer, one_spelled}
 
 -- the log isn't too long and has no fault, and codes and nodes suffice at each event
 abbrev IsClearLog : Limits → List Item → Text → Type 0
-IsClearLog limits items all = (length all ≤ limits.log) × ((records limits.log all).end ≡ log_records.Rest) × AllFit limits items (records limits.log all).events
+IsClearLog limits items all = (length all ≤ limits.log) × ((records limits.log (is_timed items) all).end ≡ log_records.Rest) × AllFit limits items (records limits.log (is_timed items) all).events
 
 -- such a log ends with no fault of a record, and at no event
 
@@ -26,10 +27,10 @@ no_fault : (end : log_records.End) (fault : LogFault) → end ≡ log_records.Re
 no_fault log_records.Rest fault is at = at
 no_fault (log_records.At number why) fault is at = cc
 
-no_stop : (limits : Limits) (spec : Option Text) (items : List Item) (all : Text) (event : ℕ) (why : event_end.End) (events : ℕ) (body : Text) → Accepts spec items → AllFit limits items (records limits.log all).events →
+no_stop : (limits : Limits) (spec : Option Text) (items : List Item) (all : Text) (event : ℕ) (why : event_end.End) (events : ℕ) (body : Text) → Accepts spec items → AllFit limits items (records limits.log (is_timed items) all).events →
     StoppedLog limits items all event why events body → ⊥
 no_stop limits spec items all event why events body accepted fits (s, _, _) =
-    never_stops limits items (accepted_plan limits items accepted.clear accepted.built) s.log s.event why (fits s.log s.later s.event s.split) s.stops
+    never_stops limits items (accepted_plan limits spec items accepted) s.log s.event why (fits s.log s.later s.event s.split) s.stops
 
 -- so it is judged whole
 log_whole : (limits : Limits) (spec : Option Text) (items : List Item) (all : Text) (unread : Text → Type 0) (end : End) (events : ℕ) (body : Text) → IsDecided end → Accepts spec items → IsClearLog limits items all →
@@ -40,8 +41,7 @@ log_whole limits spec items all unread Usage events body d accepted clear h = h
 log_whole limits spec items all unread SpecTooLong events body d accepted clear h = h
 log_whole limits spec items all unread (Spec fault) events body d accepted clear h = h
 log_whole limits spec items all unread (Names fault) events body d accepted clear h = h
-log_whole limits spec items all unread NotBuilt events body d accepted clear h = h
-log_whole limits spec items all unread (Log fault) events body d accepted (few, rest, fits) (at, _, _) = no_fault (records limits.log all).end fault rest at
+log_whole limits spec items all unread (Log fault) events body d accepted (few, rest, fits) (at, _, _) = no_fault (records limits.log (is_timed items) all).end fault rest at
 log_whole limits spec items all unread (LogTooLong most) events body d accepted (few, rest, fits) (same, many, _, _, _) = absurd (omega (arith, few, many))
 log_whole limits spec items all unread (CodesFull event variable need) events body d accepted (few, rest, fits) h =
     no_stop limits spec items all event (event_end.CodesFull variable need) events body accepted fits h
@@ -80,8 +80,6 @@ two_whole laws limits texts spec log unread rose out_rose old new (Spec fault) c
     accepted_or_refused laws (text_of texts spec) items (Spec fault) accepted answer.reached.0
 two_whole laws limits texts spec log unread rose out_rose old new (Names fault) cause (_, answer, _) (items, accepted, _) calm out_calm =
     accepted_or_refused laws (text_of texts spec) items (Names fault) accepted answer.reached.0
-two_whole laws limits texts spec log unread rose out_rose old new NotBuilt cause (_, answer, _) (items, accepted, _) calm out_calm =
-    accepted_or_refused laws (text_of texts spec) items NotBuilt accepted answer.reached.0
 two_whole laws limits texts spec log unread rose out_rose old new Usage cause (_, answer, _) clear calm out_calm =
     checked_whole laws limits (text_of texts spec) (text_of texts log) unread Usage answer.events answer.body tt clear answer.reached
 two_whole laws limits texts spec log unread rose out_rose old new (Log fault) cause (_, answer, _) clear calm out_calm =

@@ -11,7 +11,7 @@ use Rattle.monitor_run.specs.Passing.{Passes}
 use Rattle.monitor_run.specs.Reading.{Reaches}
 use Rattle.monitor_run.specs.declared.limits.Limits.{Limits}
 use Rattle.monitor_run.specs.declared.end.End.{End}
-use Rattle.monitor_run.specs.declared.end.End.TheVariants.{AllTrue, Violated, Usage, SpecTooLong, Spec, Names, NotBuilt, Log, LogTooLong, CodesFull, NodesFull, OpenFault, ReadFault, WriteFault, NoMemory}
+use Rattle.monitor_run.specs.declared.end.End.TheVariants.{AllTrue, Violated, Usage, SpecTooLong, Spec, Names, Log, LogTooLong, CodesFull, NodesFull, OpenFault, ReadFault, WriteFault, NoMemory}
 
 appends_none : (a b c : Option Text) (xs : Text) → Appends a b xs → Appends b c [] → Appends a c xs
 appends_none a b c xs h none = subst (λ (ys : Text). Appends a c ys) (append-nil xs) (Appends-trans a b c xs [] h none)
@@ -64,7 +64,6 @@ file_cause rose before SpecTooLong other h = tt
 file_cause rose before (Spec fault) other h = tt
 file_cause rose before (Names fault) other h = tt
 file_cause rose before (Log fault) other h = tt
-file_cause rose before NotBuilt other h = tt
 file_cause rose before (LogTooLong limit) other h = tt
 file_cause rose before (CodesFull event variable need) other h = tt
 file_cause rose before (NodesFull event subformula row) other h = tt
@@ -114,7 +113,6 @@ ended limits texts words unread rose before out_rose w0 w1 w2 held SpecTooLong e
 ended limits texts words unread rose before out_rose w0 w1 w2 held (Spec fault) end events name cause named b f = sends_told limits texts words unread rose out_rose w0 w1 w2 held (Spec fault) end events name (λ x. x) tt named b f
 ended limits texts words unread rose before out_rose w0 w1 w2 held (Names fault) end events name cause named b f = sends_told limits texts words unread rose out_rose w0 w1 w2 held (Names fault) end events name (λ x. x) tt named b f
 ended limits texts words unread rose before out_rose w0 w1 w2 held (Log fault) end events name cause named b f = sends_told limits texts words unread rose out_rose w0 w1 w2 held (Log fault) end events name (λ x. x) tt named b f
-ended limits texts words unread rose before out_rose w0 w1 w2 held NotBuilt end events name cause named b f = sends_told limits texts words unread rose out_rose w0 w1 w2 held NotBuilt end events name (λ x. x) tt named b f
 ended limits texts words unread rose before out_rose w0 w1 w2 held (LogTooLong limit) end events name cause named b f = sends_told limits texts words unread rose out_rose w0 w1 w2 held (LogTooLong limit) end events name (λ x. x) tt named b f
 ended limits texts words unread rose before out_rose w0 w1 w2 held (CodesFull event variable need) end events name cause named b f = sends_told limits texts words unread rose out_rose w0 w1 w2 held (CodesFull event variable need) end events name (λ x. x) tt named b f
 ended limits texts words unread rose before out_rose w0 w1 w2 held (NodesFull event subformula row) end events name cause named b f = sends_told limits texts words unread rose out_rose w0 w1 w2 held (NodesFull event subformula row) end events name (λ x. x) tt named b f
@@ -144,7 +142,6 @@ ended_cause rose before out_rose after w1 w2 held SpecTooLong end events name ea
 ended_cause rose before out_rose after w1 w2 held (Spec fault) end events name early up cause f = sends_cause rose out_rose after w1 w2 _ (Spec fault) end up tt f
 ended_cause rose before out_rose after w1 w2 held (Names fault) end events name early up cause f = sends_cause rose out_rose after w1 w2 _ (Names fault) end up tt f
 ended_cause rose before out_rose after w1 w2 held (Log fault) end events name early up cause f = sends_cause rose out_rose after w1 w2 _ (Log fault) end up tt f
-ended_cause rose before out_rose after w1 w2 held NotBuilt end events name early up cause f = sends_cause rose out_rose after w1 w2 _ NotBuilt end up tt f
 ended_cause rose before out_rose after w1 w2 held (LogTooLong limit) end events name early up cause f = sends_cause rose out_rose after w1 w2 _ (LogTooLong limit) end up tt f
 ended_cause rose before out_rose after w1 w2 held (CodesFull event variable need) end events name early up cause f = sends_cause rose out_rose after w1 w2 _ (CodesFull event variable need) end up tt f
 ended_cause rose before out_rose after w1 w2 held (NodesFull event subformula row) end events name early up cause f = sends_cause rose out_rose after w1 w2 _ (NodesFull event subformula row) end up tt f
@@ -165,7 +162,6 @@ ended_usage out_rose w1 w2 held SpecTooLong end events name f e = sends_usage ou
 ended_usage out_rose w1 w2 held (Spec fault) end events name f e = sends_usage out_rose w1 w2 _ (Spec fault) end f e
 ended_usage out_rose w1 w2 held (Names fault) end events name f e = sends_usage out_rose w1 w2 _ (Names fault) end f e
 ended_usage out_rose w1 w2 held (Log fault) end events name f e = sends_usage out_rose w1 w2 _ (Log fault) end f e
-ended_usage out_rose w1 w2 held NotBuilt end events name f e = sends_usage out_rose w1 w2 _ NotBuilt end f e
 ended_usage out_rose w1 w2 held (LogTooLong limit) end events name f e = sends_usage out_rose w1 w2 _ (LogTooLong limit) end f e
 ended_usage out_rose w1 w2 held (CodesFull event variable need) end events name f e = sends_usage out_rose w1 w2 _ (CodesFull event variable need) end f e
 ended_usage out_rose w1 w2 held (NodesFull event subformula row) end events name f e = sends_usage out_rose w1 w2 _ (NodesFull event subformula row) end f e

@@ -7,7 +7,7 @@ use Rattle.monitor_run.specs.Answer.{HasFaultCause}
 use Rattle.monitor_run.specs.Files.{IsReadingEnd}
 use Rattle.monitor_run.specs.Specification.{end_of_log}
 use Rattle.monitor_run.specs.declared.end.End.{End}
-use Rattle.monitor_run.specs.declared.end.End.TheVariants.{AllTrue, Violated, Usage, SpecTooLong, Spec, Names, NotBuilt, Log, LogTooLong, CodesFull, NodesFull, OpenFault, ReadFault, WriteFault, NoMemory}
+use Rattle.monitor_run.specs.declared.end.End.TheVariants.{AllTrue, Violated, Usage, SpecTooLong, Spec, Names, Log, LogTooLong, CodesFull, NodesFull, OpenFault, ReadFault, WriteFault, NoMemory}
 
 -- none of these ends is a fault of a file or of the output
 pub log_cause : (rose : Type 0) (fault : LogFault) (end : End) → end ≡ end_of_log fault → HasFaultCause ⊥ rose end
@@ -42,7 +42,6 @@ cause_more files out out' Usage later h = tt
 cause_more files out out' SpecTooLong later h = tt
 cause_more files out out' (Spec fault) later h = tt
 cause_more files out out' (Names fault) later h = tt
-cause_more files out out' NotBuilt later h = tt
 cause_more files out out' (Log fault) later h = tt
 cause_more files out out' (LogTooLong limit) later h = tt
 cause_more files out out' (CodesFull event variable need) later h = tt
@@ -67,7 +66,6 @@ cause_later files files' out out' Usage f o h = tt
 cause_later files files' out out' SpecTooLong f o h = tt
 cause_later files files' out out' (Spec fault) f o h = tt
 cause_later files files' out out' (Names fault) f o h = tt
-cause_later files files' out out' NotBuilt f o h = tt
 cause_later files files' out out' (Log fault) f o h = tt
 cause_later files files' out out' (LogTooLong limit) f o h = tt
 cause_later files files' out out' (CodesFull event variable need) f o h = tt

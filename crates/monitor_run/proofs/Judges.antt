@@ -20,10 +20,10 @@ use Rattle.monitor_run.specs.Standing.{StandsFor}
 use Rattle.monitor_run.specs.declared.judge.Judge.{Judge}
 
 -- the time at a position of the first events is as before
-time_before : (log more : List Event) (i : ℕ) → 1 ≤ i → i ≤ length log → time_at (log ++ more) i ≡ time_at log i
+pub time_before : (log more : List Event) (i : ℕ) → 1 ≤ i → i ≤ length log → time_at (log ++ more) i ≡ time_at log i
 time_before log more i low high = ap time_of (sym ((same_to_append log more).events i low high))
 
-time_last : (log : List Event) (e : Event) → time_at (log ++ e ∷ []) (length log + 1) ≡ e.time
+pub time_last : (log : List Event) (e : Event) → time_at (log ++ e ∷ []) (length log + 1) ≡ e.time
 time_last log e =
     let at : length log + 1 - 1 ≡ length log = omega arith in
     ap time_of (ap (λ (j : ℕ). slice_get (log ++ e ∷ []) j) at ∙ get_last log [] e)

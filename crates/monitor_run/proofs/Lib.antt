@@ -6,6 +6,7 @@ mod Ending
 mod Ends
 mod EventsAsked
 mod Faulted
+mod FewTerms
 mod Given
 mod Judges
 mod Namings
@@ -16,7 +17,7 @@ mod Rows
 mod RunCosts
 mod Specifications
 mod Spending
+mod TimedRows
 mod Times
-mod Untimed
 mod Walks
 mod Writing

@@ -12,7 +12,7 @@ use Rattle.monitor_run.specs.declared.judge.Judge.{Judge}
 use Rattle.monitor_run.specs.declared.limits.Limits.{Limits}
 use Rattle.monitor_run.specs.declared.session.Reached.{Reached}
 use Rattle.monitor_run.specs.declared.end.End.{End}
-use Rattle.monitor_run.specs.declared.end.End.TheVariants.{AllTrue, Violated, Usage, SpecTooLong, Spec, Names, NotBuilt, Log, LogTooLong, CodesFull, NodesFull, OpenFault, ReadFault, WriteFault, NoMemory}
+use Rattle.monitor_run.specs.declared.end.End.TheVariants.{AllTrue, Violated, Usage, SpecTooLong, Spec, Names, Log, LogTooLong, CodesFull, NodesFull, OpenFault, ReadFault, WriteFault, NoMemory}
 
 -- The log
 
@@ -33,7 +33,6 @@ reached_named limits items j k end r s same (inl is) = subst (λ (x : Reached). 
   go SpecTooLong = tt
   go (Spec fault) = tt
   go (Names fault) = tt
-  go NotBuilt = tt
   go (Log fault) = tt
   go (LogTooLong most) = tt
   go (OpenFault which) = tt
@@ -56,7 +55,6 @@ both_named limits (Some texts) spec log judge Usage name p h = tt
 both_named limits (Some texts) spec log judge SpecTooLong name p h = tt
 both_named limits (Some texts) spec log judge (Spec fault) name p h = tt
 both_named limits (Some texts) spec log judge (Names fault) name p h = tt
-both_named limits (Some texts) spec log judge NotBuilt name p h = tt
 both_named limits (Some texts) spec log judge (Log fault) name p h = tt
 both_named limits (Some texts) spec log judge (LogTooLong most) name p h = tt
 both_named limits (Some texts) spec log judge (OpenFault which) name p h = tt
@@ -75,7 +73,6 @@ refused_named (Some texts) spec log rose Usage name r = tt
 refused_named (Some texts) spec log rose SpecTooLong name r = tt
 refused_named (Some texts) spec log rose (Spec fault) name r = tt
 refused_named (Some texts) spec log rose (Names fault) name r = tt
-refused_named (Some texts) spec log rose NotBuilt name r = tt
 refused_named (Some texts) spec log rose (Log fault) name r = tt
 refused_named (Some texts) spec log rose (LogTooLong most) name r = tt
 refused_named (Some texts) spec log rose (OpenFault which) name r = tt

@@ -15,14 +15,14 @@ use Rattle.log_reader.specs.declared.fault.LogFault.{LogFault}
 use Rattle.monitor_model.specs.Ends as event_end
 use Rattle.monitor_model.specs.Stands.{IsPlan}
 use Rattle.monitor_model.proofs.Ends.OneEnd.{one_end}
-use Rattle.monitor_run.specs.Answer.{Accepts, IsTooLong, HasFault, HasNameFault, IsNotBuilt, IsBuilt, Spells, Judged, WholeLog, StoppedLog, LogBody, Checked, IsBody, IsNamed, IsAnswer, IsDecided, IsExact, Writes, end_of_verdicts, last_line}
+use Rattle.monitor_run.specs.Answer.{Accepts, IsTooLong, HasFault, HasNameFault, Spells, Judged, WholeLog, StoppedLog, LogBody, Checked, IsBody, IsNamed, IsAnswer, IsDecided, IsExact, Writes, end_of_verdicts, last_line}
 use Rattle.monitor_run.specs.Records.{records, IsFaultAt}
 use Rattle.monitor_run.specs.Report.{violation_lines}
 use Rattle.monitor_run.specs.Stops.{AllFit, ComesAt, setting_in, variable_name}
-use Rattle.monitor_run.specs.Verdicts.{Property, properties, names, IsRow, AreVerdicts, false_count}
+use Rattle.monitor_run.specs.Verdicts.{Property, properties, names, is_timed, IsRow, AreVerdicts, false_count}
 use Rattle.monitor_run.specs.declared.limits.Limits.{Limits}
 use Rattle.monitor_run.specs.declared.end.End.{End}
-use Rattle.monitor_run.specs.declared.end.End.TheVariants.{AllTrue, Violated, Usage, SpecTooLong, Spec, Names, NotBuilt, Log, LogTooLong, CodesFull, NodesFull, OpenFault, ReadFault, WriteFault, NoMemory}
+use Rattle.monitor_run.specs.declared.end.End.TheVariants.{AllTrue, Violated, Usage, SpecTooLong, Spec, Names, Log, LogTooLong, CodesFull, NodesFull, OpenFault, ReadFault, WriteFault, NoMemory}
 use Rattle.monitor_run.proofs.AcceptedPlans.{accepted_plan}
 use Rattle.monitor_run.proofs.OneSpelled.{OneAnswer, one_spelled}
 use Rattle.monitor_run.proofs.Walks.{is_within, is_past}
@@ -166,12 +166,12 @@ end_of limits all log_records.Rest count = if nat_le (length all) limits.log the
 end_of limits all (log_records.At number why) count = Log (numbered number why)
 
 -- the end where all events of a log were judged, with these verdicts
-abbrev whole_of : Limits → Text → List (List Bool) → End
-whole_of limits all rows = end_of limits all (records limits.log all).end (false_count rows)
+abbrev whole_of : Limits → List Item → Text → List (List Bool) → End
+whole_of limits items all rows = end_of limits all (records limits.log (is_timed items) all).end (false_count rows)
 
 -- the same with these events judged
 abbrev ReachedOf : Limits → List Item → Text → (judged : List Event) → (rows : List (List Bool)) → End → Type 0
-ReachedOf limits items all judged rows end = Reached limits items (records limits.log all).events judged (whole_of limits all rows) end
+ReachedOf limits items all judged rows end = Reached limits items (records limits.log (is_timed items) all).events judged (whole_of limits items all rows) end
 
 -- the name that the last line tells
 abbrev name_due : List Item → End → Option Text
@@ -198,12 +198,12 @@ one_reading : (limits : Limits) (items : List Item) (log : Option Text) (end due
 one_reading limits items log end due report other plan a b =
     let same : b.all ≡ a.all = let p = a.given in let q = b.given in cc in
     let reached = subst (λ (l : Text). ReachedOf limits items l b.judged b.rows due) same b.reached in
-    let judged : b.judged ≡ a.judged = sym (one_judged limits items plan (records limits.log a.all).events a.judged b.judged _ _ end due a.fits b.fits a.reached reached) in
+    let judged : b.judged ≡ a.judged = sym (one_judged limits items plan (records limits.log (is_timed items) a.all).events a.judged b.judged _ _ end due a.fits b.fits a.reached reached) in
     let right = subst (λ (l : List Event). AreVerdicts l (properties items) b.rows) judged b.right in
     let rows : b.rows ≡ a.rows = one_verdicts a.judged (properties items) b.rows a.rows right a.right in
     let here = subst (λ (l : List Event). ReachedOf limits items a.all l b.rows due) judged reached in
     let again = subst (λ (v : List (List Bool)). ReachedOf limits items a.all a.judged v due) rows here in
-    let e : end ≡ due = one_reached limits items plan (records limits.log a.all).events a.judged _ end due a.reached again in (
+    let e : end ≡ due = one_reached limits items plan (records limits.log (is_timed items) a.all).events a.judged _ end due a.reached again in (
       e,
       a.written ∙ ap (λ (d : End). report_of items a.judged a.rows d) e ∙ ap (λ (v : List (List Bool)). report_of items a.judged v due) (sym rows)
           ∙ ap (λ (l : List Event). report_of items l b.rows due) (sym judged) ∙ sym b.written,
@@ -234,24 +234,24 @@ abbrev IsDueLine : List Item → End → ℕ → Option Text → Type 0
 IsDueLine items end events name = last_line end events name ≡ last_line end events (name_due items end)
 
 read_all : (limits : Limits) (items : List Item) (log : Option Text) (end : End) (events violations : ℕ) (body all : Text) (name : Option Text) → IsDueLine items end events name → log ≡ Some all →
-    (j : Judged limits items (records limits.log all).events events violations body) → end ≡ whole_of limits all j.rows → Reading limits items log end (body ++ last_line end events name)
+    (j : Judged limits items (records limits.log (is_timed items) all).events events violations body) → end ≡ whole_of limits items all j.rows → Reading limits items log end (body ++ last_line end events name)
 read_all limits items log end events violations body all name line is j whole =
     record {
       all = all;
       given = is;
-      judged = (records limits.log all).events;
+      judged = (records limits.log (is_timed items) all).events;
       rows = j.rows;
       right = j.right;
       fits = j.fits;
       reached = inl (refl, whole);
-      written = written_as limits items (records limits.log all).events end events violations body name j line;
+      written = written_as limits items (records limits.log (is_timed items) all).events end events violations body name j line;
     }
 
 read_whole : (limits : Limits) (items : List Item) (log : Option Text) (events violations : ℕ) (body all : Text) (name : Option Text) → IsDueLine items (end_of_verdicts violations) events name → log ≡ Some all →
     WholeLog limits items all events violations body → Reading limits items log (end_of_verdicts violations) (body ++ last_line (end_of_verdicts violations) events name)
 read_whole limits items log events violations body all name line is (few, rest, j) =
     read_all limits items log (end_of_verdicts violations) events violations body all name line is j
-    (ap end_of_verdicts j.false_ones ∙ ends_whole limits all (records limits.log all).end (false_count j.rows) few rest)
+    (ap end_of_verdicts j.false_ones ∙ ends_whole limits all (records limits.log (is_timed items) all).end (false_count j.rows) few rest)
 
 read_stopped : (limits : Limits) (items : List Item) (log : Option Text) (end : End) (event : ℕ) (why : event_end.End) (events : ℕ) (body all : Text) (name : Option Text) → IsDueLine items end events name →
     log ≡ Some all → end ≡ stop_of event why → StoppedLog limits items all event why events body → Reading limits items log end (body ++ last_line end events name)
@@ -273,9 +273,9 @@ reading_of limits items log unread AllTrue events body all name d line is h = re
 reading_of limits items log unread (Violated zero) events body all name d line is h = absurd (omega (arith, h.0))
 reading_of limits items log unread (Violated (suc n)) events body all name d line is h = read_whole limits items log events (suc n) body all name line is h.1
 reading_of limits items log unread (Log fault) events body all name d line is (at, violations, j) =
-    read_all limits items log (Log fault) events violations body all name line is j (ends_faulty limits all (records limits.log all).end fault (false_count j.rows) at)
+    read_all limits items log (Log fault) events violations body all name line is j (ends_faulty limits all (records limits.log (is_timed items) all).end fault (false_count j.rows) at)
 reading_of limits items log unread (LogTooLong most) events body all name d line is (same, many, rest, violations, j) =
-    read_all limits items log (LogTooLong most) events violations body all name line is j (ap LogTooLong same ∙ ends_long limits all (records limits.log all).end (false_count j.rows) many rest)
+    read_all limits items log (LogTooLong most) events violations body all name line is j (ap LogTooLong same ∙ ends_long limits all (records limits.log (is_timed items) all).end (false_count j.rows) many rest)
 reading_of limits items log unread (CodesFull event variable need) events body all name d line is h =
     read_stopped limits items log (CodesFull event variable need) event (event_end.CodesFull variable need) events body all name line is refl h
 reading_of limits items log unread (NodesFull event subformula row) events body all name d line is h =
@@ -284,7 +284,6 @@ reading_of limits items log unread Usage events body all name d line is h = absu
 reading_of limits items log unread SpecTooLong events body all name d line is h = absurd h
 reading_of limits items log unread (Spec fault) events body all name d line is h = absurd h
 reading_of limits items log unread (Names fault) events body all name d line is h = absurd h
-reading_of limits items log unread NotBuilt events body all name d line is h = absurd h
 reading_of limits items log unread (OpenFault which) events body all name d line is h = absurd d
 reading_of limits items log unread (ReadFault which) events body all name d line is h = absurd d
 reading_of limits items log unread WriteFault events body all name d line is h = absurd d
@@ -299,13 +298,11 @@ abbrev pub Refused : Option Text → End → Type 0
 Refused spec SpecTooLong = IsTooLong spec
 Refused spec (Spec fault) = HasFault spec fault
 Refused spec (Names fault) = HasNameFault spec fault
-Refused spec NotBuilt = IsNotBuilt spec
 Refused spec _ = ⊥
 
 -- what a specification that spells items decides
 abbrev Decides : List Item → End → Type 0
 Decides items (Names fault) = first_fault items ≡ Some fault
-Decides items NotBuilt = (first_fault items ≡ None) × (¬ IsBuilt items)
 Decides items _ = ⊥
 
 never_long : OneAnswer → (spec : Option Text) (items : List Item) → Spells spec items → IsTooLong spec → ⊥
@@ -321,8 +318,6 @@ refused_by : OneAnswer → (spec : Option Text) (items : List Item) (end : End) 
 refused_by laws spec items SpecTooLong spelled refused = absurd (never_long laws spec items spelled refused)
 refused_by laws spec items (Spec fault) spelled refused = absurd (never_faulty laws spec items fault spelled refused)
 refused_by laws spec items (Names fault) spelled (others, again, bad) = subst (λ (x : List Item). first_fault x ≡ Some fault) (one_spelled laws spec items others spelled again) bad
-refused_by laws spec items NotBuilt spelled (others, again, clear, other) =
-    subst (λ (x : List Item). (first_fault x ≡ None) × (¬ IsBuilt x)) (one_spelled laws spec items others spelled again) (clear, other)
 refused_by laws spec items AllTrue spelled refused = refused
 refused_by laws spec items (Violated count) spelled refused = refused
 refused_by laws spec items Usage spelled refused = refused
@@ -336,31 +331,29 @@ refused_by laws spec items WriteFault spelled refused = refused
 refused_by laws spec items NoMemory spelled refused = refused
 
 -- an accepted specification decides no end
-accepted_decides : (items : List Item) (end : End) → first_fault items ≡ None → IsBuilt items → Decides items end → ⊥
-accepted_decides items (Names fault) clear built bad = let no_fault : None ≡ Some fault = sym clear ∙ bad in cc
-accepted_decides items NotBuilt clear built (_, other) = other built
-accepted_decides items AllTrue clear built bad = bad
-accepted_decides items (Violated count) clear built bad = bad
-accepted_decides items Usage clear built bad = bad
-accepted_decides items SpecTooLong clear built bad = bad
-accepted_decides items (Spec fault) clear built bad = bad
-accepted_decides items (Log fault) clear built bad = bad
-accepted_decides items (LogTooLong most) clear built bad = bad
-accepted_decides items (CodesFull event variable need) clear built bad = bad
-accepted_decides items (NodesFull event subformula row) clear built bad = bad
-accepted_decides items (OpenFault which) clear built bad = bad
-accepted_decides items (ReadFault which) clear built bad = bad
-accepted_decides items WriteFault clear built bad = bad
-accepted_decides items NoMemory clear built bad = bad
+accepted_decides : (items : List Item) (end : End) → first_fault items ≡ None → Decides items end → ⊥
+accepted_decides items (Names fault) clear bad = let no_fault : None ≡ Some fault = sym clear ∙ bad in cc
+accepted_decides items AllTrue clear bad = bad
+accepted_decides items (Violated count) clear bad = bad
+accepted_decides items Usage clear bad = bad
+accepted_decides items SpecTooLong clear bad = bad
+accepted_decides items (Spec fault) clear bad = bad
+accepted_decides items (Log fault) clear bad = bad
+accepted_decides items (LogTooLong most) clear bad = bad
+accepted_decides items (CodesFull event variable need) clear bad = bad
+accepted_decides items (NodesFull event subformula row) clear bad = bad
+accepted_decides items (OpenFault which) clear bad = bad
+accepted_decides items (ReadFault which) clear bad = bad
+accepted_decides items WriteFault clear bad = bad
+accepted_decides items NoMemory clear bad = bad
 
 pub accepted_or_refused : OneAnswer → (spec : Option Text) (items : List Item) (end : End) → Accepts spec items → Refused spec end → ⊥
-accepted_or_refused laws spec items end a refused = accepted_decides items end a.clear a.built (refused_by laws spec items end a.spelled refused)
+accepted_or_refused laws spec items end a refused = accepted_decides items end a.clear (refused_by laws spec items end a.spelled refused)
 
 -- it decides one end
 
 names_decide : (items : List Item) (fault : NameFault) (due : End) → first_fault items ≡ Some fault → Decides items due → Names fault ≡ due
 names_decide items fault (Names other) a b = let same : Some fault ≡ Some other = sym a ∙ b in let one : fault ≡ other = cc in ap Names one
-names_decide items fault NotBuilt a (clear, _) = let no_fault : None ≡ Some fault = sym clear ∙ a in absurd (let n : ⊥ = cc in n)
 names_decide items fault AllTrue a b = absurd b
 names_decide items fault (Violated count) a b = absurd b
 names_decide items fault Usage a b = absurd b
@@ -375,28 +368,10 @@ names_decide items fault (ReadFault which) a b = absurd b
 names_decide items fault WriteFault a b = absurd b
 names_decide items fault NoMemory a b = absurd b
 
-unbuilt_decides : (items : List Item) (due : End) → first_fault items ≡ None → Decides items due → NotBuilt ≡ due
-unbuilt_decides items (Names other) clear bad = let no_fault : None ≡ Some other = sym clear ∙ bad in absurd (let n : ⊥ = cc in n)
-unbuilt_decides items NotBuilt clear b = refl
-unbuilt_decides items AllTrue clear b = absurd b
-unbuilt_decides items (Violated count) clear b = absurd b
-unbuilt_decides items Usage clear b = absurd b
-unbuilt_decides items SpecTooLong clear b = absurd b
-unbuilt_decides items (Spec other) clear b = absurd b
-unbuilt_decides items (Log other) clear b = absurd b
-unbuilt_decides items (LogTooLong most) clear b = absurd b
-unbuilt_decides items (CodesFull event variable need) clear b = absurd b
-unbuilt_decides items (NodesFull event subformula row) clear b = absurd b
-unbuilt_decides items (OpenFault which) clear b = absurd b
-unbuilt_decides items (ReadFault which) clear b = absurd b
-unbuilt_decides items WriteFault clear b = absurd b
-unbuilt_decides items NoMemory clear b = absurd b
-
 -- so does one that spells none
 none_refused : (end : End) → Refused None end → ⊥
 none_refused (Spec fault) refused = refused.1
 none_refused (Names fault) (items, spelled, bad) = spelled
-none_refused NotBuilt (items, spelled, clear, other) = spelled
 none_refused SpecTooLong refused = refused
 none_refused AllTrue refused = refused
 none_refused (Violated count) refused = refused
@@ -414,7 +389,6 @@ long_refusal : (text : Text) (due : End) → IsTooLong (Some text) → Refused (
 long_refusal text SpecTooLong large due = refl
 long_refusal text (Spec fault) large (_, (short, _)) = absurd (omega (arith, short, large))
 long_refusal text (Names fault) large (_, (short, _), _) = absurd (omega (arith, short, large))
-long_refusal text NotBuilt large (_, (short, _), _, _) = absurd (omega (arith, short, large))
 long_refusal text AllTrue large due = absurd due
 long_refusal text (Violated count) large due = absurd due
 long_refusal text Usage large due = absurd due
@@ -431,7 +405,6 @@ fault_refusal : OneAnswer → (text : Text) (fault : SpecFault) (due : End) → 
 fault_refusal laws text fault SpecTooLong (_, (short, _)) large = absurd (omega (arith, short, large))
 fault_refusal laws text fault (Spec other) (some, (_, bad)) (some', (_, bad')) = ap Spec (laws.one_fault text fault other some some' bad bad')
 fault_refusal laws text fault (Names other) (some, (_, bad)) (items, (_, within), _) = absurd (laws.never_both text fault items some bad within)
-fault_refusal laws text fault NotBuilt (some, (_, bad)) (items, (_, within), _, _) = absurd (laws.never_both text fault items some bad within)
 fault_refusal laws text fault AllTrue bad due = absurd due
 fault_refusal laws text fault (Violated count) bad due = absurd due
 fault_refusal laws text fault Usage bad due = absurd due
@@ -449,7 +422,6 @@ one_refusal laws None end due a b = absurd (none_refused end a)
 one_refusal laws (Some text) SpecTooLong due a b = long_refusal text due a b
 one_refusal laws (Some text) (Spec fault) due a b = fault_refusal laws text fault due a b
 one_refusal laws (Some text) (Names fault) due (items, spelled, bad) b = names_decide items fault due bad (refused_by laws (Some text) items due spelled b)
-one_refusal laws (Some text) NotBuilt due (items, spelled, clear, other) b = unbuilt_decides items due clear (refused_by laws (Some text) items due spelled b)
 one_refusal laws (Some text) AllTrue due a b = absurd a
 one_refusal laws (Some text) (Violated count) due a b = absurd a
 one_refusal laws (Some text) Usage due a b = absurd a
@@ -473,7 +445,7 @@ one_decision laws limits spec log end due report other (inl (refused, r)) (inl (
 one_decision laws limits spec log end due report other (inl (refused, r)) (inr (items, accepted, read)) = absurd (accepted_or_refused laws spec items end accepted refused)
 one_decision laws limits spec log end due report other (inr (items, accepted, read)) (inl (refused, r)) = absurd (accepted_or_refused laws spec items due accepted refused)
 one_decision laws limits spec log end due report other (inr (items, accepted, read)) (inr (others, accepted', read')) =
-    one_reading limits items log end due report other (accepted_plan limits items accepted.clear accepted.built) read
+    one_reading limits items log end due report other (accepted_plan limits spec items accepted) read
     (subst (λ (x : List Item). Reading limits x log due other) (one_spelled laws spec items others accepted.spelled accepted'.spelled) read')
 
 -- a name that is told is the one that is due
@@ -493,7 +465,6 @@ due_name laws texts spec log Usage events name h items spells = refl
 due_name laws texts spec log SpecTooLong events name h items spells = refl
 due_name laws texts spec log (Spec fault) events name h items spells = refl
 due_name laws texts spec log (Names fault) events name h items spells = refl
-due_name laws texts spec log NotBuilt events name h items spells = refl
 due_name laws texts spec log (Log fault) events name h items spells = refl
 due_name laws texts spec log (LogTooLong limit) events name h items spells = refl
 due_name laws texts spec log (NodesFull event subformula row) events name h items spells = refl
@@ -515,7 +486,6 @@ decision limits spec log unread Usage events body name d due h = checked limits 
 decision limits spec log unread SpecTooLong events body name d due h = inl (h.0, ap (λ (l : Text). l ++ last_line SpecTooLong 0 None) h.1)
 decision limits spec log unread (Spec fault) events body name d due h = inl (h.0, ap (λ (l : Text). l ++ last_line (Spec fault) 0 None) h.1)
 decision limits spec log unread (Names fault) events body name d due h = inl (h.0, ap (λ (l : Text). l ++ last_line (Names fault) 0 None) h.1)
-decision limits spec log unread NotBuilt events body name d due h = inl (h.0, ap (λ (l : Text). l ++ last_line NotBuilt 0 None) h.1)
 decision limits spec log unread (Log fault) events body name d due h = checked limits spec log unread (Log fault) events body name d due h
 decision limits spec log unread (LogTooLong limit) events body name d due h = checked limits spec log unread (LogTooLong limit) events body name d due h
 decision limits spec log unread (CodesFull event variable need) events body name d due h = checked limits spec log unread (CodesFull event variable need) events body name d due h
@@ -556,7 +526,6 @@ written_exact laws limits texts words unread rose old new SpecTooLong (bytes, an
 written_exact laws limits texts words unread rose old new (Spec fault) (bytes, answer, grown) due other d b d' = (one_report laws limits texts words unread (λ _. ⊤) (Spec fault) due bytes other d' d answer b).0
 written_exact laws limits texts words unread rose old new (Names fault) (bytes, answer, grown) due other d b d' = (one_report laws limits texts words unread (λ _. ⊤) (Names fault) due bytes other d' d answer b).0
 written_exact laws limits texts words unread rose old new (Log fault) (bytes, answer, grown) due other d b d' = (one_report laws limits texts words unread (λ _. ⊤) (Log fault) due bytes other d' d answer b).0
-written_exact laws limits texts words unread rose old new NotBuilt (bytes, answer, grown) due other d b d' = (one_report laws limits texts words unread (λ _. ⊤) NotBuilt due bytes other d' d answer b).0
 written_exact laws limits texts words unread rose old new (LogTooLong limit) (bytes, answer, grown) due other d b d' = (one_report laws limits texts words unread (λ _. ⊤) (LogTooLong limit) due bytes other d' d answer b).0
 written_exact laws limits texts words unread rose old new (CodesFull event variable need) (bytes, answer, grown) due other d b d' = (one_report laws limits texts words unread (λ _. ⊤) (CodesFull event variable need) due bytes other d' d answer b).0
 written_exact laws limits texts words unread rose old new (NodesFull event subformula row) (bytes, answer, grown) due other d b d' = (one_report laws limits texts words unread (λ _. ⊤) (NodesFull event subformula row) due bytes other d' d answer b).0

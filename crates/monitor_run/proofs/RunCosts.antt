@@ -18,6 +18,7 @@ use Rattle.monitor_run.specs.Records.{records}
 use Rattle.monitor_run.specs.Specification.{SpecRead}
 use Rattle.monitor_run.specs.Standing.{HasSizes, IsPlanOf, StandsAt}
 use Rattle.monitor_run.specs.Stops.{table_in}
+use Rattle.monitor_run.specs.Verdicts.{is_timed}
 use Rattle.monitor_run.specs.declared.end.End.{End}
 use Rattle.monitor_run.specs.declared.judge.Judge.{Judge}
 use Rattle.monitor_run.specs.declared.limits.Limits.{Limits}
@@ -54,14 +55,14 @@ spent_most bound from asked count before after fresh few spent =
     omega (arith, none, most, spent)
 
 pub opened_cost : (limits : Limits) (t : Option (List (Text × Text))) (name : Text) (items : List Item) (j : Judge) (left : Option Text) (end : End) (from asked before after : ℕ) →
-    StandsAt limits items [] [] j → IsAmple limits → from ≡ 0 → GivesText t name left → ((all : Text) → left ≡ Some all → IsAsked limits all end asked) →
+    StandsAt limits items [] [] j → IsAmple limits → from ≡ 0 → GivesText t name left → ((all : Text) → left ≡ Some all → IsAsked limits items all end asked) →
     (IsLarge j.monitor.shelf → Spends (step_bound j.monitor) from asked before after) → IfSome t (λ texts. CostsAtMost limits items (text_of texts name) end before after)
 opened_cost limits None name items j left end from asked before after s ample fresh given few spent = tt
 opened_cost limits (Some texts) name items j left end from asked before after s ample fresh given few spent = go (text_of texts name) given where
   go : (log : Option Text) → IsSomeAnd log (λ bytes. left ≡ Some bytes) → CostsAtMost limits items log end before after
   go None is = tt
   go (Some all) is =
-      spent_most (event_bound limits items) from asked (events_asked end (length (records limits.log all).events)) before after fresh (few all is)
+      spent_most (event_bound limits items) from asked (events_asked end (length (records limits.log (is_timed items) all).events)) before after fresh (few all is)
       (subst (λ (bound : ℕ). Spends bound from asked before after) (bound_is limits items j s.plan s.sizes) (spent (large_is limits j s.sizes ample)))
 
 -- a log of which nothing was read costs nothing
@@ -70,7 +71,7 @@ at_most_more n more = omega arith
 
 log_cost : (limits : Limits) (items : List Item) (log : Option Text) (end : End) (n : ℕ) → CostsAtMost limits items log end n n
 log_cost limits items None end n = tt
-log_cost limits items (Some all) end n = at_most_more n (event_bound limits items * events_asked end (length (records limits.log all).events))
+log_cost limits items (Some all) end n = at_most_more n (event_bound limits items * events_asked end (length (records limits.log (is_timed items) all).events))
 
 pub unopened_cost : (limits : Limits) (t : Option (List (Text × Text))) (name : Text) (items : List Item) (end : End) (n : ℕ) → IfSome t (λ texts. CostsAtMost limits items (text_of texts name) end n n)
 unopened_cost limits None name items end n = tt
@@ -107,7 +108,7 @@ log_finished : (limits : Limits) (items : List Item) (log : Option Text) (reache
     CostsAtMost limits items log reached before after → CostsAtMost limits items log end before after
 log_finished limits items None reached end before after more cost = tt
 log_finished limits items (Some all) reached end before after more cost =
-    let n = length (records limits.log all).events in
+    let n = length (records limits.log (is_timed items) all).events in
     more_asked (event_bound limits items) (events_asked reached n) (events_asked end n) before after (more n) cost
 
 words_finished : (limits : Limits) (texts : List (Text × Text)) (words : List Text) (reached end : End) (before after : ℕ) → ((n : ℕ) → events_asked reached n ≤ events_asked end n) →

@@ -1,31 +1,27 @@
 -- What is read of a specification's text.
 use Rattle.std.proofs.Common.{◌≡◌, ◌∙◌, List, [], ◌∷◌, ◌++◌, refl, sym, ap, arith, true, false}
 use Rattle.std.specs.Prelude.{Option, Some, None, IfSome, Result, Ok, Err, IfOk, IfErr}
-use Rattle.std.specs.List.{list_any}
 use Rattle.qtl_syntax.specs.Tree.{Text, Item}
 use Rattle.subformulas.specs.Table.{Table}
 use Rattle.wellformed.specs.Expansion.{expanded_props}
-use Rattle.wellformed.specs.Timed.{has_timed}
 use Rattle.qtl_truth.specs.declared.event.Event.{Event}
 use Rattle.monitor_model.specs.State.{Stands}
-use Rattle.monitor_run.specs.Answer.{IsBuilt}
 use Rattle.monitor_run.specs.Specification.{SpecIs, IsSpelled, IsUnspelled, SpecRead, SpecRefused}
-use Rattle.monitor_run.specs.Standing.{HasSizes, IsPlanOf, StandsAt}
+use Rattle.monitor_run.specs.Standing.{HasSizes, IsPlanOf, StandsAt, has_times}
 use Rattle.monitor_run.specs.Stops.{table_in}
-use Rattle.monitor_run.proofs.Untimed.{any_timed, all_timed}
+use Rattle.monitor_run.specs.Verdicts.{is_timed}
+use Rattle.monitor_run.proofs.TimedRows.{any_timed, all_timed}
 use Rattle.monitor_run.specs.declared.judge.Judge.{Judge}
 use Rattle.monitor_run.specs.declared.limits.Limits.{Limits}
 use Rattle.monitor_run.specs.declared.end.End.{End}
-use Rattle.monitor_run.specs.declared.end.End.TheVariants.{AllTrue, Violated, Usage, SpecTooLong, Spec, Names, NotBuilt, Log, LogTooLong, CodesFull, NodesFull, OpenFault, ReadFault, WriteFault, NoMemory}
+use Rattle.monitor_run.specs.declared.end.End.TheVariants.{AllTrue, Violated, Usage, SpecTooLong, Spec, Names, Log, LogTooLong, CodesFull, NodesFull, OpenFault, ReadFault, WriteFault, NoMemory}
 
 spelled_read : (limits : Limits) (t : Option (List (Text × Text))) (spec text : Text) (judge : Judge) → IfSome t (λ files. SpecIs files spec text) → IsSpelled limits text judge → SpecRead limits t spec judge
 spelled_read limits None spec text judge s h = record { items = h.items; stands = h.stands; accepted = tt }
 spelled_read limits (Some files) spec text judge s h =
-    record { items = h.items; stands = h.stands; accepted = record { spelled = rw s.0 (s.1, h.spelled); clear = h.clear; built = h.built } }
+    record { items = h.items; stands = h.stands; accepted = record { spelled = rw s.0 (s.1, h.spelled); clear = h.clear } }
 
 unspelled_read : (t : Option (List (Text × Text))) (spec text : Text) (rose : Type 0) (end : End) → IfSome t (λ files. SpecIs files spec text) → IsUnspelled text end → SpecRefused t spec rose end
-unspelled_read None spec text rose NotBuilt s h = tt
-unspelled_read (Some files) spec text rose NotBuilt s (items, within, clear, other) = (items, rw s.0 (s.1, within), clear, other)
 unspelled_read None spec text rose (Names fault) s h = tt
 unspelled_read (Some files) spec text rose (Names fault) s (items, within, bad) = (items, rw s.0 (s.1, within), bad)
 unspelled_read None spec text rose (Spec fault) s h = tt
@@ -75,11 +71,5 @@ judge_stands limits items judge plan sizes stands events violations =
     }
 
 -- a plan has a timed operator exactly where its properties have one
-timed_alike : (items : List Item) (plan : Table) → plan.subs ≡ table_in items → any_timed plan.subs ≡ list_any (λ p. has_timed p.1) (expanded_props [] 0 items)
-timed_alike items plan rows = ap any_timed rows ∙ all_timed 0 (expanded_props [] 0 items)
-
-pub built_when : (items : List Item) (plan : Table) → plan.subs ≡ table_in items → any_timed plan.subs ≡ false → IsBuilt items
-built_when items plan rows untimed = sym (timed_alike items plan rows) ∙ untimed
-
-pub built_where : (items : List Item) (plan : Table) → plan.subs ≡ table_in items → IsBuilt items → any_timed plan.subs ≡ true → ⊥
-built_where items plan rows built timed = let no : true ≡ false = sym timed ∙ (timed_alike items plan rows ∙ built) in let n : ⊥ = cc in n
+pub plan_times : (items : List Item) (plan : Table) → plan.subs ≡ table_in items → has_times plan ≡ is_timed items
+plan_times items plan rows = ap any_timed rows ∙ all_timed 0 (expanded_props [] 0 items)

@@ -24,16 +24,17 @@ use Rattle.monitor_run.specs.Passing.{Passes}
 use Rattle.monitor_run.specs.Reading.{LogReached, IsReadEnd}
 use Rattle.monitor_run.specs.Records.{records, IsFaultAt}
 use Rattle.monitor_run.specs.Report.{event_lines, violation_lines}
-use Rattle.monitor_run.specs.Standing.{IsPlanOf, HasSizes, StandsFor, StandsAt, Fed, Walked, WalkedAll, AreAll, row_of}
+use Rattle.monitor_run.specs.Standing.{IsPlanOf, HasSizes, StandsFor, StandsAt, Fed, Walked, WalkedAll, AreAll, has_times, row_of}
 use Rattle.monitor_run.specs.Stops.{AllFit, ComesAt, setting_in}
-use Rattle.monitor_run.specs.Verdicts.{properties, names, IsRow, AreVerdicts, false_in}
+use Rattle.monitor_run.specs.Verdicts.{properties, names, is_timed, IsRow, AreVerdicts, false_in}
 use Rattle.monitor_run.specs.declared.end.End.{End}
-use Rattle.monitor_run.specs.declared.end.End.TheVariants.{AllTrue, Violated, Usage, SpecTooLong, Spec, Names, NotBuilt, Log, LogTooLong, CodesFull, NodesFull, OpenFault, ReadFault, WriteFault, NoMemory}
+use Rattle.monitor_run.specs.declared.end.End.TheVariants.{AllTrue, Violated, Usage, SpecTooLong, Spec, Names, Log, LogTooLong, CodesFull, NodesFull, OpenFault, ReadFault, WriteFault, NoMemory}
 use Rattle.monitor_run.specs.declared.end.Which.TheVariants as file
 use Rattle.monitor_run.specs.declared.judge.Judge.{Judge}
 use Rattle.monitor_run.specs.declared.limits.Limits.{Limits}
 use Rattle.monitor_run.proofs.Given.{IsFaulty, front_stays, fed_piece, fed_end, fed_start}
 use Rattle.monitor_run.proofs.Passages.{passes_trans, passes_front, passes_flushed, passes_none}
+use Rattle.monitor_run.proofs.Specifications.{plan_times}
 use Rattle.monitor_run.proofs.Rows.{plan_names, row_right, verdicts_more, lines_more, false_more}
 
 -- The records that a run reads
@@ -44,32 +45,32 @@ is_within a b h = grind (arith, nat_tests)
 pub is_past : (a b : ℕ) → b < a → nat_le a b ≡ false
 is_past a b h = grind (arith, nat_tests)
 
-pub records_short : (limit : ℕ) (all : Text) → length all ≤ limit → records limit all ≡ cut all false true
-records_short limit all h = rw (is_within (length all) limit h) refl
+pub records_short : (limit : ℕ) (timed : Bool) (all : Text) → length all ≤ limit → records limit timed all ≡ cut all timed true
+records_short limit timed all h = rw (is_within (length all) limit h) refl
 
-pub records_long : (limit : ℕ) (all : Text) → limit < length all → records limit all ≡ cut (take limit all) false false
-records_long limit all h = rw (is_past (length all) limit h) refl
+pub records_long : (limit : ℕ) (timed : Bool) (all : Text) → limit < length all → records limit timed all ≡ cut (take limit all) timed false
+records_long limit timed all h = rw (is_past (length all) limit h) refl
 
 -- they are those of these first bytes and some more
-records_behind : (limit : ℕ) (all given rest : Text) → all ≡ given ++ rest → length given ≤ limit → (limit < length all) ⊎ (length all ≤ limit) →
-    (more : Text) × (ended : Bool) × (records limit all ≡ cut (given ++ more) false ended)
-records_behind limit all given rest split short (inr few) = (rest, true, records_short limit all few ∙ ap (λ (l : Text). cut l false true) split)
-records_behind limit all given rest split short (inl many) =
+records_behind : (limit : ℕ) (timed : Bool) (all given rest : Text) → all ≡ given ++ rest → length given ≤ limit → (limit < length all) ⊎ (length all ≤ limit) →
+    (more : Text) × (ended : Bool) × (records limit timed all ≡ cut (given ++ more) timed ended)
+records_behind limit timed all given rest split short (inr few) = (rest, true, records_short limit timed all few ∙ ap (λ (l : Text). cut l timed true) split)
+records_behind limit timed all given rest split short (inl many) =
     let n : limit ≡ length given + (limit - length given) = omega arith in
     let front : take limit all ≡ given ++ take (limit - length given) rest =
     ap (λ (l : Text). take limit l) split ∙ ap (λ (k : ℕ). take k (given ++ rest)) n ∙ take-append-add given rest (limit - length given) in
-    (take (limit - length given) rest, false, records_long limit all many ∙ ap (λ (l : Text). cut l false false) front)
+    (take (limit - length given) rest, false, records_long limit timed all many ∙ ap (λ (l : Text). cut l timed false) front)
 
 -- the events of the bytes that were given are the log's first ones
-pub records_front : (limit : ℕ) (all given rest : Text) (ended : Bool) (log later : List Event) → all ≡ given ++ rest → length given ≤ limit → (ended ≡ true → rest ≡ []) →
-    (cut given false ended).events ≡ log ++ later → (more : List Event) × ((records limit all).events ≡ log ++ more)
-records_front limit all given rest true log later split short closed first =
+pub records_front : (limit : ℕ) (timed : Bool) (all given rest : Text) (ended : Bool) (log later : List Event) → all ≡ given ++ rest → length given ≤ limit → (ended ≡ true → rest ≡ []) →
+    (cut given timed ended).events ≡ log ++ later → (more : List Event) × ((records limit timed all).events ≡ log ++ more)
+records_front limit timed all given rest true log later split short closed first =
     let whole : all ≡ given = split ∙ ap (λ (l : Text). given ++ l) (closed refl) ∙ append-nil given in
     let few : length all ≤ limit = subst (λ (l : Text). length l ≤ limit) (sym whole) short in
-    (later, ap (λ (c : Cut). c.events) (records_short limit all few) ∙ ap (λ (l : Text). (cut l false true).events) whole ∙ first)
-records_front limit all given rest false log later split short closed first =
-    let b = records_behind limit all given rest split short (cases_lt limit (length all)) in
-    let s = front_stays given b.0 b.1 log later first in
+    (later, ap (λ (c : Cut). c.events) (records_short limit timed all few) ∙ ap (λ (l : Text). (cut l timed true).events) whole ∙ first)
+records_front limit timed all given rest false log later split short closed first =
+    let b = records_behind limit timed all given rest split short (cases_lt limit (length all)) in
+    let s = front_stays timed given b.0 b.1 log later first in
     (s.0, ap (λ (c : Cut). c.events) b.2 ∙ s.1)
 
 -- and they are no more than the log has
@@ -80,15 +81,15 @@ few_front log more events is = let n = ap length is in let m = length-append log
 faulty_whole : (why : Fault) (number : ℕ) (log : List Event) (front whole : Cut) → front ≡ record { events = log; end = At number why } → GoesOn front whole → whole ≡ front
 faulty_whole why number log front whole is goes = subst (λ (c : Cut). GoesOn c whole → whole ≡ c) (sym is) (λ g. g) goes
 
-pub records_fault : (limit : ℕ) (all given rest : Text) (ended : Bool) (log : List Event) (fault : LogFault) → all ≡ given ++ rest → length given ≤ limit → (ended ≡ true → rest ≡ []) →
-    (f : IsFaulty given ended log fault) → records limit all ≡ record { events = log; end = At f.number f.why }
-records_fault limit all given rest true log fault split short closed f =
+pub records_fault : (limit : ℕ) (timed : Bool) (all given rest : Text) (ended : Bool) (log : List Event) (fault : LogFault) → all ≡ given ++ rest → length given ≤ limit → (ended ≡ true → rest ≡ []) →
+    (f : IsFaulty timed given ended log fault) → records limit timed all ≡ record { events = log; end = At f.number f.why }
+records_fault limit timed all given rest true log fault split short closed f =
     let whole : all ≡ given = split ∙ ap (λ (l : Text). given ++ l) (closed refl) ∙ append-nil given in
     let few : length all ≤ limit = subst (λ (l : Text). length l ≤ limit) (sym whole) short in
-    records_short limit all few ∙ ap (λ (l : Text). cut l false true) whole ∙ f.records
-records_fault limit all given rest false log fault split short closed f =
-    let b = records_behind limit all given rest split short (cases_lt limit (length all)) in
-    b.2 ∙ faulty_whole f.why f.number log (cut given false false) (cut (given ++ b.0) false b.1) f.records (grows given b.0 false b.1) ∙ f.records
+    records_short limit timed all few ∙ ap (λ (l : Text). cut l timed true) whole ∙ f.records
+records_fault limit timed all given rest false log fault split short closed f =
+    let b = records_behind limit timed all given rest split short (cases_lt limit (length all)) in
+    b.2 ∙ faulty_whole f.why f.number log (cut given timed false) (cut (given ++ b.0) timed b.1) f.records (grows given b.0 timed b.1) ∙ f.records
 
 -- Walks
 
@@ -157,7 +158,7 @@ next_text limits items log rows j k s plan events =
 
 -- the reader moved on, and gave no event: the bytes have no further one
 pub walked_all : (limits : Limits) (items : List Item) (all : Text) (left sent w1 : Option Text) (given : Text) (ended : Bool) (j : Judge) (r t : Reading) (held : Text) →
-    (w : Walked limits items all left sent w1 given ended j r held) → Fed given ended w.log t → AreAll given ended w.log → WalkedAll limits items all left sent w1 given ended j t held
+    (w : Walked limits items all left sent w1 given ended j r held) → Fed (is_timed items) given ended w.log t → AreAll (is_timed items) given ended w.log → WalkedAll limits items all left sent w1 given ended j t held
 walked_all limits items all left sent w1 given ended j r t held w fed done =
     record {
       walked = record { rest = w.rest; split = w.split; remains = w.remains; short = w.short; closed = w.closed; log = w.log; rows = w.rows; fed = fed; stands = w.stands; passed = w.passed };
@@ -166,7 +167,7 @@ walked_all limits items all left sent w1 given ended j r t held w fed done =
 
 -- one event more was judged
 pub walked_event : (limits : Limits) (items : List Item) (all : Text) (left sent w1 w2 : Option Text) (given : Text) (ended : Bool) (j k : Judge) (r t : Reading) (held held' : Text) (e : Event) →
-    (w : Walked limits items all left sent w1 given ended j r held) → Fed given ended (w.log ++ e ∷ []) t → KeepsPlan j k →
+    (w : Walked limits items all left sent w1 given ended j r held) → Fed (is_timed items) given ended (w.log ++ e ∷ []) t → KeepsPlan j k →
     ComesTo j.monitor w.log e None × StandsFor k.monitor (w.log ++ e ∷ []) → WritesEvent j k w1 w2 held held' (Ok tt) → Walked limits items all left sent w2 given ended k t held'
 walked_event limits items all left sent w1 w2 given ended j k r t held held' e w fed same (comes, stands) (events, violations, passed) =
     let s = w.stands in
@@ -195,13 +196,13 @@ walked_event limits items all left sent w1 w2 given ended j k r t held held' e w
 
 -- a write failed at the lines of an event
 walk_cut : (limits : Limits) (items : List Item) (all : Text) (left sent w1 w2 : Option Text) (given : Text) (ended : Bool) (j k : Judge) (r t : Reading) (held held' : Text) (e : Event) →
-    (w : Walked limits items all left sent w1 given ended j r held) → Fed given ended (w.log ++ e ∷ []) t → KeepsPlan j k →
+    (w : Walked limits items all left sent w1 given ended j r held) → Fed (is_timed items) given ended (w.log ++ e ∷ []) t → KeepsPlan j k →
     ComesTo j.monitor w.log e None × StandsFor k.monitor (w.log ++ e ∷ []) → k.events ≡ j.events + 1 → AppendsFront w1 w2 (held ++ last_lines k) →
     LogReached limits items all left sent w2 held' WriteFault k.events
 walk_cut limits items all left sent w1 w2 given ended j k r t held held' e w fed same (comes, stands) count front =
     let s = w.stands in
     let plan = next_plan items j k same s.plan in
-    let first = records_front limits.log all given w.rest ended (w.log ++ e ∷ []) fed.later w.split w.short w.closed fed.first in
+    let first = records_front limits.log (is_timed items) all given w.rest ended (w.log ++ e ∷ []) fed.later w.split w.short w.closed fed.first in
     let f = passes_front sent w1 w2 [] held (violation_lines 1 (names (properties items)) w.rows) (last_lines k) w.passed front in (
       f.front,
       record {
@@ -215,7 +216,7 @@ walk_cut limits items all left sent w1 w2 given ended j k r t held held' e w fed
         written = sym f.split ∙ sym (next_text limits items w.log w.rows j k s plan count);
       },
       f.grown,
-      let n = few_front (w.log ++ e ∷ []) first.0 (records limits.log all).events first.1 in
+      let n = few_front (w.log ++ e ∷ []) first.0 (records limits.log (is_timed items) all).events first.1 in
           let m = length-append w.log (e ∷ []) in
           omega (arith, n, m, count, s.events),
     )
@@ -224,15 +225,15 @@ walk_cut limits items all left sent w1 w2 given ended j k r t held held' e w fed
 front_of : (limits : Limits) (items : List Item) (all : Text) (left sent w1 : Option Text) (given : Text) (ended : Bool) (j : Judge) (r : Reading) (held front more : Text) →
     (w : Walked limits items all left sent w1 given ended j r held) → front ++ more ≡ violation_lines 1 (names (properties items)) w.rows → IsFrontOfLines limits items all front
 front_of limits items all left sent w1 given ended j r held front more w written =
-    let first = records_front limits.log all given w.rest ended w.log w.fed.later w.split w.short w.closed w.fed.first in
+    let first = records_front limits.log (is_timed items) all given w.rest ended w.log w.fed.later w.split w.short w.closed w.fed.first in
     record { log = w.log; later = first.0; rows = w.rows; more = more; first = first.1; fits = w.stands.fits; right = w.stands.right; written = written }
 
 -- and no more events were judged than the log has
 few_judged : (limits : Limits) (items : List Item) (all : Text) (left sent w1 : Option Text) (given : Text) (ended : Bool) (j : Judge) (r : Reading) (held : Text) →
-    Walked limits items all left sent w1 given ended j r held → j.events ≤ length (records limits.log all).events
+    Walked limits items all left sent w1 given ended j r held → j.events ≤ length (records limits.log (is_timed items) all).events
 few_judged limits items all left sent w1 given ended j r held w =
-    let first = records_front limits.log all given w.rest ended w.log w.fed.later w.split w.short w.closed w.fed.first in
-    let n = few_front w.log first.0 (records limits.log all).events first.1 in
+    let first = records_front limits.log (is_timed items) all given w.rest ended w.log w.fed.later w.split w.short w.closed w.fed.first in
+    let n = few_front w.log first.0 (records limits.log (is_timed items) all).events first.1 in
     omega (arith, n, w.stands.events)
 
 -- there was no memory
@@ -265,11 +266,11 @@ judged limits items log events rows j s is =
 
 -- codes or nodes don't suffice at an event
 stopped_log : (limits : Limits) (items : List Item) (all : Text) (left sent w1 : Option Text) (given : Text) (ended : Bool) (j : Judge) (r t : Reading) (held : Text) (e : Event) (number : ℕ) (why : event_end.End) →
-    (w : Walked limits items all left sent w1 given ended j r held) → Fed given ended (w.log ++ e ∷ []) t → number ≡ j.events + 1 → ComesTo j.monitor w.log e (Some why) →
+    (w : Walked limits items all left sent w1 given ended j r held) → Fed (is_timed items) given ended (w.log ++ e ∷ []) t → number ≡ j.events + 1 → ComesTo j.monitor w.log e (Some why) →
     StoppedLog limits items all number why j.events (violation_lines 1 (names (properties items)) w.rows)
 stopped_log limits items all left sent w1 given ended j r t held e number why w fed count comes =
     let s = w.stands in
-    let first = records_front limits.log all given w.rest ended (w.log ++ e ∷ []) fed.later w.split w.short w.closed fed.first in (
+    let first = records_front limits.log (is_timed items) all given w.rest ended (w.log ++ e ∷ []) fed.later w.split w.short w.closed fed.first in (
       record {
         log = w.log;
         event = e;
@@ -283,7 +284,7 @@ stopped_log limits items all left sent w1 given ended j r t held e number why w 
     )
 
 walk_stopped : (limits : Limits) (items : List Item) (all : Text) (left sent w1 w2 : Option Text) (given : Text) (ended : Bool) (j : Judge) (r t : Reading) (held held' : Text) (e : Event) (number events : ℕ) (why : event_end.End) →
-    (w : Walked limits items all left sent w1 given ended j r held) → Fed given ended (w.log ++ e ∷ []) t → (number ≡ j.events + 1) × ComesTo j.monitor w.log e (Some why) →
+    (w : Walked limits items all left sent w1 given ended j r held) → Fed (is_timed items) given ended (w.log ++ e ∷ []) t → (number ≡ j.events + 1) × ComesTo j.monitor w.log e (Some why) →
     events ≡ j.events → w2 ≡ w1 → held' ≡ held →
     (body : Text) × StoppedLog limits items all number why events body × Passes sent w2 [] held' body
 walk_stopped limits items all left sent w1 w2 given ended j r t held held' e number events why w fed (count, comes) same out kept =
@@ -295,7 +296,7 @@ walk_stopped limits items all left sent w1 w2 given ended j r t held held' e num
 
 -- the event can't be judged, or its lines can't be written
 pub walk_refused : (limits : Limits) (items : List Item) (all : Text) (left sent w1 w2 : Option Text) (given : Text) (ended : Bool) (j k : Judge) (r t : Reading) (held held' : Text) (e : Event) (end : End) →
-    (w : Walked limits items all left sent w1 given ended j r held) → Fed given ended (w.log ++ e ∷ []) t → KeepsPlan j k → Judges j k w.log e (Err end) →
+    (w : Walked limits items all left sent w1 given ended j r held) → Fed (is_timed items) given ended (w.log ++ e ∷ []) t → KeepsPlan j k → Judges j k w.log e (Err end) →
     WritesEvent j k w1 w2 held held' (Err end) → LogReached limits items all left sent w2 held' end k.events
 walk_refused limits items all left sent w1 w2 given ended j k r t held held' e WriteFault w fed same judges (count, front) =
     walk_cut limits items all left sent w1 w2 given ended j k r t held held' e w fed same judges count front
@@ -312,7 +313,6 @@ walk_refused limits items all left sent w1 w2 given ended j k r t held held' e U
 walk_refused limits items all left sent w1 w2 given ended j k r t held held' e SpecTooLong w fed same judges writes = absurd judges
 walk_refused limits items all left sent w1 w2 given ended j k r t held held' e (Spec fault) w fed same judges writes = absurd judges
 walk_refused limits items all left sent w1 w2 given ended j k r t held held' e (Names fault) w fed same judges writes = absurd judges
-walk_refused limits items all left sent w1 w2 given ended j k r t held held' e NotBuilt w fed same judges writes = absurd judges
 walk_refused limits items all left sent w1 w2 given ended j k r t held held' e (Log fault) w fed same judges writes = absurd judges
 walk_refused limits items all left sent w1 w2 given ended j k r t held held' e (LogTooLong most) w fed same judges writes = absurd judges
 walk_refused limits items all left sent w1 w2 given ended j k r t held held' e (OpenFault which) w fed same judges writes = absurd judges
@@ -320,12 +320,12 @@ walk_refused limits items all left sent w1 w2 given ended j k r t held held' e (
 
 -- the log has a fault
 pub walk_faulty : (limits : Limits) (items : List Item) (all : Text) (left sent w1 : Option Text) (given : Text) (ended : Bool) (j : Judge) (r : Reading) (held : Text) (fault : LogFault) →
-    (w : Walked limits items all left sent w1 given ended j r held) → IsFaulty given ended w.log fault →
+    (w : Walked limits items all left sent w1 given ended j r held) → IsFaulty (is_timed items) given ended w.log fault →
     (body : Text) × LogBody (Log fault) limits items all (λ rest. left ≡ Some rest) j.events body × Passes sent w1 [] held body
 walk_faulty limits items all left sent w1 given ended j r held fault w f =
-    let is = records_fault limits.log all given w.rest ended w.log fault w.split w.short w.closed f in
-    let at : IsFaultAt (records limits.log all).end fault = subst (λ (c : Cut). IsFaultAt c.end fault) (sym is) f.named in
-    (violation_lines 1 (names (properties items)) w.rows, (at, j.violations, judged limits items w.log (records limits.log all).events w.rows j w.stands (ap (λ (c : Cut). c.events) is)), w.passed)
+    let is = records_fault limits.log (is_timed items) all given w.rest ended w.log fault w.split w.short w.closed f in
+    let at : IsFaultAt (records limits.log (is_timed items) all).end fault = subst (λ (c : Cut). IsFaultAt c.end fault) (sym is) f.named in
+    (violation_lines 1 (names (properties items)) w.rows, (at, j.violations, judged limits items w.log (records limits.log (is_timed items) all).events w.rows j w.stands (ap (λ (c : Cut). c.events) is)), w.passed)
 
 -- the log was read whole
 whole_log : (limits : Limits) (items : List Item) (all : Text) (left sent w1 : Option Text) (given : Text) (j : Judge) (r : Reading) (held : Text) →
@@ -334,8 +334,8 @@ whole_log limits items all left sent w1 given j r held a =
     let w = a.walked in
     let whole : all ≡ given = w.split ∙ ap (λ (l : Text). given ++ l) (w.closed refl) ∙ append-nil given in
     let few : length all ≤ limits.log = subst (λ (l : Text). length l ≤ limits.log) (sym whole) w.short in
-    let is = records_short limits.log all few ∙ ap (λ (l : Text). cut l false true) whole ∙ a.done in
-    (few, ap (λ (c : Cut). c.end) is, judged limits items w.log (records limits.log all).events w.rows j w.stands (ap (λ (c : Cut). c.events) is))
+    let is = records_short limits.log (is_timed items) all few ∙ ap (λ (l : Text). cut l (is_timed items) true) whole ∙ a.done in
+    (few, ap (λ (c : Cut). c.end) is, judged limits items w.log (records limits.log (is_timed items) all).events w.rows j w.stands (ap (λ (c : Cut). c.events) is))
 
 verdicts_reached : (limits : Limits) (items : List Item) (all : Text) (left sent w1 : Option Text) (held body : Text) (events violations : ℕ) →
     WholeLog limits items all events violations body → Passes sent w1 [] held body → LogReached limits items all left sent w1 held (end_of_verdicts violations) events
@@ -353,7 +353,7 @@ pub walk_hurt : (limits : Limits) (items : List Item) (all : Text) (left sent w1
 walk_hurt limits items all left sent w1 given j r held a =
     let w = a.walked in (
       violation_lines 1 (names (properties items)) w.rows,
-      (given, w.rest, w.split, w.remains, w.short, ap (λ (c : Cut). c.end) a.done, j.violations, judged limits items w.log (cut given false false).events w.rows j w.stands (ap (λ (c : Cut). c.events) a.done)),
+      (given, w.rest, w.split, w.remains, w.short, ap (λ (c : Cut). c.end) a.done, j.violations, judged limits items w.log (cut given (is_timed items) false).events w.rows j w.stands (ap (λ (c : Cut). c.events) a.done)),
       w.passed,
     )
 
@@ -367,9 +367,9 @@ walk_long limits items all left left' sent w1 given j r held a full more =
     let e : limits.log ≡ length given + 0 = omega (arith, full) in
     let front : take limits.log all ≡ given =
     ap (λ (l : Text). take limits.log l) w.split ∙ ap (λ (k : ℕ). take k (given ++ w.rest)) e ∙ take-append-add given w.rest 0 ∙ append-nil given in
-    let is = records_long limits.log all long ∙ ap (λ (l : Text). cut l false false) front ∙ a.done in (
+    let is = records_long limits.log (is_timed items) all long ∙ ap (λ (l : Text). cut l (is_timed items) false) front ∙ a.done in (
       violation_lines 1 (names (properties items)) w.rows,
-      (refl, long, ap (λ (c : Cut). c.end) is, j.violations, judged limits items w.log (records limits.log all).events w.rows j w.stands (ap (λ (c : Cut). c.events) is)),
+      (refl, long, ap (λ (c : Cut). c.end) is, j.violations, judged limits items w.log (records limits.log (is_timed items) all).events w.rows j w.stands (ap (λ (c : Cut). c.events) is)),
       w.passed,
     )
 
@@ -403,7 +403,7 @@ walked_fed limits items all left left' sent w1 w2 given piece j r t held held' a
       closed = λ e. let n : ⊥ = cc in absurd n;
       log = w.log;
       rows = w.rows;
-      fed = fed_piece given piece w.log r t w.fed is (stands given w.fed.stands);
+      fed = fed_piece (is_timed items) given piece w.log r t w.fed is (stands given w.fed.stands);
       stands = w.stands;
       passed = flushed sent w1 w2 held held' (violation_lines 1 (names (properties items)) w.rows) w.passed sends none;
     }
@@ -433,7 +433,7 @@ read_reached limits items all left left' sent w1 w2 given j r held held' (ReadFa
         w.short,
         ap (λ (c : Cut). c.end) a.done,
         j.violations,
-        judged limits items w.log (cut given false false).events w.rows j w.stands (ap (λ (c : Cut). c.events) a.done),
+        judged limits items w.log (cut given (is_timed items) false).events w.rows j w.stands (ap (λ (c : Cut). c.events) a.done),
       ),
       flushed sent w1 w2 held held' lines w.passed sends none,
     )
@@ -444,7 +444,6 @@ read_reached limits items all left left' sent w1 w2 given j r held held' Usage a
 read_reached limits items all left left' sent w1 w2 given j r held held' SpecTooLong a h = absurd h
 read_reached limits items all left left' sent w1 w2 given j r held held' (Spec fault) a h = absurd h
 read_reached limits items all left left' sent w1 w2 given j r held held' (Names fault) a h = absurd h
-read_reached limits items all left left' sent w1 w2 given j r held held' NotBuilt a h = absurd h
 read_reached limits items all left left' sent w1 w2 given j r held held' (Log fault) a h = absurd h
 read_reached limits items all left left' sent w1 w2 given j r held held' (LogTooLong most) a h = absurd h
 read_reached limits items all left left' sent w1 w2 given j r held held' (CodesFull event variable need) a h = absurd h
@@ -467,7 +466,7 @@ walked_end limits items all left sent w1 given j r t held a end timed closed sam
       closed = λ e. none;
       log = w.log;
       rows = w.rows;
-      fed = fed_end given w.log r t w.fed (stands given w.fed.stands) timed closed same;
+      fed = fed_end (is_timed items) given w.log r t w.fed (stands given w.fed.stands) timed closed same;
       stands = w.stands;
       passed = w.passed;
     }
@@ -521,7 +520,7 @@ walked_same limits items all left left' sent w1 w2 given j r held held' a consum
 
 -- nothing was read yet
 pub walked_start : (limits : Limits) (items : List Item) (all : Text) (left sent : Option Text) (j : Judge) (r : Reading) (held : Text) →
-    StandsAt limits items [] [] j → left ≡ Some all → r ≡ fresh_reading false → Stands [] r → held ≡ [] → WalkedAll limits items all left sent sent [] false j r held
+    StandsAt limits items [] [] j → left ≡ Some all → r ≡ fresh_reading (has_times j.monitor.plan) → Stands [] r → held ≡ [] → WalkedAll limits items all left sent sent [] false j r held
 walked_start limits items all left sent j r held s is fresh stands none =
     record {
       walked = record {
@@ -532,7 +531,7 @@ walked_start limits items all left sent j r held s is fresh stands none =
         closed = λ e. let n : ⊥ = cc in absurd n;
         log = [];
         rows = [];
-        fed = fed_start r fresh stands;
+        fed = fed_start (is_timed items) r (fresh ∙ ap fresh_reading (plan_times items j.monitor.plan s.plan.subs)) stands;
         stands = s;
         passed = subst (λ (l : Text). Passes sent sent [] l []) (sym none) (passes_none sent []);
       };

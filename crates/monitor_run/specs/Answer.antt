@@ -1,6 +1,5 @@
 -- What is written at each end of a run, and when that end comes.
 use Rattle.std.specs.Prelude.{◌≡◌, ◌≢◌, ℕ, zero, suc, ◌<◌, ◌≤◌, ◌⊎◌, ⊤, List, [], ◌∷◌, ◌++◌, length, Bool, false, Option, Some, None, IsSomeAnd, unwrap_or, codes, decimal}
-use Rattle.std.specs.List.{list_any}
 use Rattle.std.specs.Io.KnownBytes.{Appends}
 use Rattle.mon_base.specs.Told.{text_of}
 use Rattle.qtl_syntax.specs.Tree.{Text, Item}
@@ -8,9 +7,7 @@ use Rattle.qtl_syntax.specs.Faults.{SpellsWithin, IsFault}
 use Rattle.qtl_syntax.specs.declared.fault.SpecFault.{SpecFault}
 use Rattle.qtl_syntax.specs.declared.fault.SpecFault.TheVariants as spec_fault
 use Rattle.qtl_truth.specs.declared.event.Event.{Event}
-use Rattle.wellformed.specs.Expansion.{expanded_props}
 use Rattle.wellformed.specs.Faults.{first_fault}
-use Rattle.wellformed.specs.Timed.{has_timed}
 use Rattle.wellformed.specs.declared.fault.NameFault.{NameFault}
 use Rattle.wellformed.specs.declared.fault.NameFault.TheVariants as name_fault
 use Rattle.log_reader.specs.Records as log_records
@@ -20,9 +17,9 @@ use Rattle.monitor_model.specs.Ends as event_end
 use Rattle.monitor_run.specs.Records.{records, IsFaultAt}
 use Rattle.monitor_run.specs.Report.{violation_lines}
 use Rattle.monitor_run.specs.Stops.{AllFit, StopsAt, variable_name}
-use Rattle.monitor_run.specs.Verdicts.{properties, names, AreVerdicts, false_count}
+use Rattle.monitor_run.specs.Verdicts.{properties, names, is_timed, AreVerdicts, false_count}
 use Rattle.monitor_run.specs.declared.end.End.{End}
-use Rattle.monitor_run.specs.declared.end.End.TheVariants.{AllTrue, Violated, Usage, SpecTooLong, Spec, Names, NotBuilt, Log, LogTooLong, CodesFull, NodesFull, OpenFault, ReadFault, WriteFault, NoMemory}
+use Rattle.monitor_run.specs.declared.end.End.TheVariants.{AllTrue, Violated, Usage, SpecTooLong, Spec, Names, Log, LogTooLong, CodesFull, NodesFull, OpenFault, ReadFault, WriteFault, NoMemory}
 use Rattle.monitor_run.specs.declared.end.Which.{Which}
 use Rattle.monitor_run.specs.declared.end.Which.TheVariants as file
 use Rattle.monitor_run.specs.declared.limits.Limits.{Limits}
@@ -44,7 +41,6 @@ status_of (OpenFault which) = 6
 status_of (ReadFault which) = 6
 status_of WriteFault = 6
 status_of NoMemory = 7
-status_of NotBuilt = 8
 
 -- the end of a log that was judged whole, with so many false verdicts
 abbrev pub end_of_verdicts : ℕ → End
@@ -73,7 +69,6 @@ IsDecided Usage = ⊤
 IsDecided SpecTooLong = ⊤
 IsDecided (Spec fault) = ⊤
 IsDecided (Names fault) = ⊤
-IsDecided NotBuilt = ⊤
 IsDecided (Log fault) = ⊤
 IsDecided (LogTooLong limit) = ⊤
 IsDecided (CodesFull event variable need) = ⊤
@@ -145,7 +140,6 @@ last_line SpecTooLong events name = codes "stopped: specification longer than 10
 last_line (Spec fault) events name = fault_line fault
 last_line (Names fault) events name = name_line fault
 last_line (Log fault) events name = log_line fault
-last_line NotBuilt events name = codes "stopped: not built\n"
 last_line (LogTooLong limit) events name = codes "stopped: log longer than " ++ (decimal limit ++ codes " bytes\n")
 last_line (CodesFull event variable need) events name = codes_line event variable need (unwrap_or name [])
 last_line (NodesFull event subformula row) events name = nodes_line event subformula row
@@ -170,18 +164,10 @@ Spells spec items = IsSomeAnd spec (λ text. (length text ≤ MAX_SPEC) × Spell
 abbrev pub HasNameFault : Option Text → NameFault → Type 0
 HasNameFault spec fault = (items : List Item) × Spells spec items × (first_fault items ≡ Some fault)
 
--- no property has a timed operator, once its macros are expanded
-abbrev pub IsBuilt : List Item → Type 0
-IsBuilt items = list_any (λ p. has_timed p.1) (expanded_props [] 0 items) ≡ false
-
-abbrev pub IsNotBuilt : Option Text → Type 0
-IsNotBuilt spec = (items : List Item) × Spells spec items × (first_fault items ≡ None) × (¬ IsBuilt items)
-
 -- the specification is accepted, and these are its items
 pub record Accepts (spec : Option Text) (items : List Item) : Type 0 where
   pub spelled : Spells spec items
   pub clear : first_fault items ≡ None
-  pub built : IsBuilt items
 
 -- Codes and nodes sufficed for these events, and they were judged: of their verdicts, by the definition of truth, so many are
 -- false, and the body is the lines of these.
@@ -196,12 +182,12 @@ pub record Judged (limits : Limits) (items : List Item) (log : List Event) (even
 -- all records of a log that isn't too long are events, and all were judged
 abbrev pub WholeLog : Limits → List Item → Text → ℕ → ℕ → Text → Type 0
 WholeLog limits items all events violations body =
-    (length all ≤ limits.log) × ((records limits.log all).end ≡ log_records.Rest) × Judged limits items (records limits.log all).events events violations body
+    (length all ≤ limits.log) × ((records limits.log (is_timed items) all).end ≡ log_records.Rest) × Judged limits items (records limits.log (is_timed items) all).events events violations body
 
 -- the events before one for which codes or nodes don't suffice were judged
 abbrev pub StoppedLog : Limits → List Item → Text → (event : ℕ) → event_end.End → ℕ → Text → Type 0
 StoppedLog limits items all event why events body =
-    (s : StopsAt limits items (records limits.log all).events event why) × (violations : ℕ) × Judged limits items s.log events violations body
+    (s : StopsAt limits items (records limits.log (is_timed items) all).events event why) × (violations : ℕ) × Judged limits items s.log events violations body
 
 -- What is written before the last line of an end that the log leads to. A log whose read fails gave some bytes, and what it
 -- has not given is left unread.
@@ -209,16 +195,16 @@ abbrev pub LogBody : End → Limits → List Item → Text → (Text → Type 0)
 LogBody AllTrue limits items all unread events body = WholeLog limits items all events 0 body
 LogBody (Violated count) limits items all unread events body = (0 < count) × WholeLog limits items all events count body
 LogBody (Log fault) limits items all unread events body =
-    IsFaultAt (records limits.log all).end fault × (violations : ℕ) × Judged limits items (records limits.log all).events events violations body
+    IsFaultAt (records limits.log (is_timed items) all).end fault × (violations : ℕ) × Judged limits items (records limits.log (is_timed items) all).events events violations body
 LogBody (LogTooLong most) limits items all unread events body =
-    (most ≡ limits.log) × (limits.log < length all) × ((records limits.log all).end ≡ log_records.Rest)
-    × (violations : ℕ) × Judged limits items (records limits.log all).events events violations body
+    (most ≡ limits.log) × (limits.log < length all) × ((records limits.log (is_timed items) all).end ≡ log_records.Rest)
+    × (violations : ℕ) × Judged limits items (records limits.log (is_timed items) all).events events violations body
 LogBody (CodesFull event variable need) limits items all unread events body = StoppedLog limits items all event (event_end.CodesFull variable need) events body
 LogBody (NodesFull event subformula row) limits items all unread events body = StoppedLog limits items all event (event_end.NodesFull subformula row) events body
 LogBody (ReadFault file.Log) limits items all unread events body =
     (given : Text) × (rest : Text) × (all ≡ given ++ rest) × unread rest × (length given ≤ limits.log)
-    × ((log_records.cut given false false).end ≡ log_records.Rest)
-    × (violations : ℕ) × Judged limits items (log_records.cut given false false).events events violations body
+    × ((log_records.cut given (is_timed items) false).end ≡ log_records.Rest)
+    × (violations : ℕ) × Judged limits items (log_records.cut given (is_timed items) false).events events violations body
 LogBody _ limits items all unread events body = ⊥
 
 -- the specification is accepted, and its log leads to this end
@@ -235,7 +221,6 @@ IsBody limits (OpenFault file.Log) spec log unread events body = (items : List I
 IsBody limits SpecTooLong spec log unread events body = IsTooLong spec × (body ≡ [])
 IsBody limits (Spec fault) spec log unread events body = HasFault spec fault × (body ≡ [])
 IsBody limits (Names fault) spec log unread events body = HasNameFault spec fault × (body ≡ [])
-IsBody limits NotBuilt spec log unread events body = IsNotBuilt spec × (body ≡ [])
 IsBody limits end spec log unread events body = Checked limits end spec log unread events body
 
 -- the same for any words
@@ -267,7 +252,7 @@ pub record IsFrontOfLines (limits : Limits) (items : List Item) (all front : Tex
   pub later : List Event
   pub rows : List (List Bool)
   pub more : Text
-  pub first : (records limits.log all).events ≡ log ++ later
+  pub first : (records limits.log (is_timed items) all).events ≡ log ++ later
   pub fits : AllFit limits items log
   pub right : AreVerdicts log (properties items) rows
   pub written : front ++ more ≡ violation_lines 1 (names (properties items)) rows
@@ -310,5 +295,5 @@ IsWhole _ = ⊥
 abbrev pub IsClear : Limits → List (Text × Text) → List Text → Type 0
 IsClear limits texts (spec ∷ log ∷ []) =
     (items : List Item) × Accepts (text_of texts spec) items
-    × IsSomeAnd (text_of texts log) (λ all. (length all ≤ limits.log) × ((records limits.log all).end ≡ log_records.Rest) × AllFit limits items (records limits.log all).events)
+    × IsSomeAnd (text_of texts log) (λ all. (length all ≤ limits.log) × ((records limits.log (is_timed items) all).end ≡ log_records.Rest) × AllFit limits items (records limits.log (is_timed items) all).events)
 IsClear limits texts words = ⊥

@@ -8,6 +8,7 @@ use Rattle.monitor_model.specs.State.{temporal_count}
 use Rattle.monitor_run.specs.Answer.{Accepts}
 use Rattle.monitor_run.specs.Records.{records}
 use Rattle.monitor_run.specs.Stops.{table_in, variables_in}
+use Rattle.monitor_run.specs.Verdicts.{is_timed}
 use Rattle.monitor_run.specs.declared.end.End.{End}
 use Rattle.monitor_run.specs.declared.end.End.TheVariants.{CodesFull, NodesFull}
 use Rattle.monitor_run.specs.declared.limits.Limits.{Limits}
@@ -30,12 +31,12 @@ events_asked (NodesFull event subformula row) n = min event n
 events_asked end n = n
 
 -- a run has handed so many of the log's events to its monitor
-abbrev pub IsAsked : Limits → Text → End → ℕ → Type 0
-IsAsked limits all end count = count ≤ events_asked end (length (records limits.log all).events)
+abbrev pub IsAsked : Limits → List Item → Text → End → ℕ → Type 0
+IsAsked limits items all end count = count ≤ events_asked end (length (records limits.log (is_timed items) all).events)
 
 -- so many steps at most for each of these
 abbrev pub CostsAtMost : Limits → List Item → Option Text → End → (before after : ℕ) → Type 0
-CostsAtMost limits items log end before after = IfSome log (λ all. after ≤ before + event_bound limits items * events_asked end (length (records limits.log all).events))
+CostsAtMost limits items log end before after = IfSome log (λ all. after ≤ before + event_bound limits items * events_asked end (length (records limits.log (is_timed items) all).events))
 
 -- where the cache is ample, that is what a run costs at most; where no specification is accepted, it costs nothing
 abbrev pub RunCosts : Limits → List (Text × Text) → List Text → End → (before after : ℕ) → Type 0

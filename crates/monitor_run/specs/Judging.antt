@@ -19,7 +19,6 @@ use Rattle.monitor_run.specs.declared.judge.Judge.{Judge}
 pub record IsReady (j : Judge) : Type 0 where
   pub live : j.monitor.live ≡ true
   pub events : j.monitor.events ≡ j.events
-  pub time : j.monitor.last_time ≡ 0
   pub fewer : j.violations ≤ 4096 * j.events
 
 -- plan and sizes stay

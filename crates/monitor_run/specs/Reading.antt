@@ -6,6 +6,7 @@ use Rattle.qtl_syntax.specs.Tree.{Text, Item}
 use Rattle.monitor_run.specs.Answer.{IsBodyFor, IsFront, IsFrontOfLines, IsFrontOfLog, LogBody}
 use Rattle.monitor_run.specs.Passing.{Passes}
 use Rattle.monitor_run.specs.Records.{records}
+use Rattle.monitor_run.specs.Verdicts.{is_timed}
 use Rattle.monitor_run.specs.declared.end.End.{End}
 use Rattle.monitor_run.specs.declared.limits.Limits.{Limits}
 use Rattle.monitor_run.specs.declared.end.End.TheVariants.{OpenFault, ReadFault, WriteFault, NoMemory}
@@ -14,9 +15,9 @@ use Rattle.monitor_run.specs.declared.end.Which.TheVariants.{Log}
 -- what was written of a log, of which this is left, and what is held back
 abbrev pub LogReached : Limits → List Item → Text → (left sent0 sent1 : Option Text) → Text → End → ℕ → Type 0
 LogReached limits items all left sent0 sent1 held WriteFault events =
-    (front : Text) × IsFrontOfLines limits items all front × Appends sent0 sent1 front × (events ≤ length (records limits.log all).events)
+    (front : Text) × IsFrontOfLines limits items all front × Appends sent0 sent1 front × (events ≤ length (records limits.log (is_timed items) all).events)
 LogReached limits items all left sent0 sent1 held NoMemory events =
-    (body : Text) × IsFrontOfLines limits items all body × Passes sent0 sent1 [] held body × (events ≤ length (records limits.log all).events)
+    (body : Text) × IsFrontOfLines limits items all body × Passes sent0 sent1 [] held body × (events ≤ length (records limits.log (is_timed items) all).events)
 LogReached limits items all left sent0 sent1 held end events =
     (body : Text) × LogBody end limits items all (λ rest. left ≡ Some rest) events body × Passes sent0 sent1 [] held body
 

@@ -10,13 +10,13 @@ use Rattle.wellformed.specs.declared.fault.NameFault.{NameFault}
 use Rattle.wellformed.specs.declared.fault.NameFault.TheVariants as name_fault
 use Rattle.log_reader.specs.declared.fault.LogFault.{LogFault}
 use Rattle.log_reader.specs.declared.fault.LogFault.TheVariants as log_fault
-use Rattle.monitor_run.specs.Answer.{IsTooLong, HasFault, HasNameFault, IsBuilt, IsNotBuilt, Accepts}
+use Rattle.monitor_run.specs.Answer.{IsTooLong, HasFault, HasNameFault, Accepts}
 use Rattle.monitor_run.specs.Standing.{StandsAt}
 use Rattle.monitor_run.specs.declared.TheConstants.{MAX_SPEC}
 use Rattle.monitor_run.specs.declared.judge.Judge.{Judge}
 use Rattle.monitor_run.specs.declared.end.End.{End}
 use Rattle.monitor_run.specs.declared.limits.Limits.{Limits}
-use Rattle.monitor_run.specs.declared.end.End.TheVariants.{SpecTooLong, Spec, Names, NotBuilt, Log, OpenFault, ReadFault, NoMemory}
+use Rattle.monitor_run.specs.declared.end.End.TheVariants.{SpecTooLong, Spec, Names, Log, OpenFault, ReadFault, NoMemory}
 use Rattle.monitor_run.specs.declared.end.Which.TheVariants as file
 
 -- the specification of this name is this
@@ -41,14 +41,12 @@ pub record IsSpelled (limits : Limits) (text : Text) (judge : Judge) : Type 0 wh
   pub items : List Item
   pub spelled : SpellsWithin text items
   pub clear : first_fault items ≡ None
-  pub built : IsBuilt items
   pub stands : StandsAt limits items [] [] judge
 
--- it has a fault, or spells items whose names have one or that are not built, or there was no memory
+-- it has a fault, or spells items whose names have one, or there was no memory
 abbrev pub IsUnspelled : Text → End → Type 0
 IsUnspelled text (Spec fault) = (fault ≢ spec_fault.NoMemory) × IsFault text fault
 IsUnspelled text (Names fault) = (items : List Item) × SpellsWithin text items × (first_fault items ≡ Some fault)
-IsUnspelled text NotBuilt = (items : List Item) × SpellsWithin text items × (first_fault items ≡ None) × (¬ IsBuilt items)
 IsUnspelled text NoMemory = ⊤
 IsUnspelled text _ = ⊥
 
@@ -65,6 +63,5 @@ SpecRefused texts spec rose (ReadFault file.Spec) = rose
 SpecRefused texts spec rose SpecTooLong = IfSome texts (λ files. IsTooLong (text_of files spec))
 SpecRefused texts spec rose (Spec fault) = IfSome texts (λ files. HasFault (text_of files spec) fault)
 SpecRefused texts spec rose (Names fault) = IfSome texts (λ files. HasNameFault (text_of files spec) fault)
-SpecRefused texts spec rose NotBuilt = IfSome texts (λ files. IsNotBuilt (text_of files spec))
 SpecRefused texts spec rose NoMemory = ⊤
 SpecRefused texts spec rose _ = ⊥

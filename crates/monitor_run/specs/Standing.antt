@@ -1,7 +1,8 @@
 -- What a judge stands for after the events of a log, and how far a log was read.
-use Rattle.std.specs.Prelude.{◌≡◌, ℕ, ◌≤◌, List, [], ◌++◌, map, length, Bool, true, false, Option, Some}
+use Rattle.std.specs.Prelude.{◌≡◌, ℕ, ◌≤◌, List, [], ◌++◌, map, length, Bool, true, Option, Some}
+use Rattle.std.specs.List.{list_any}
 use Rattle.qtl_syntax.specs.Tree.{Text, Item}
-use Rattle.qtl_truth.specs.Truth.{IsLog}
+use Rattle.qtl_truth.specs.Truth.{IsLog, time_at}
 use Rattle.qtl_truth.specs.declared.event.Event.{Event}
 use Rattle.wellformed.specs.Kept.{AreKept}
 use Rattle.subformulas.specs.Table as table
@@ -11,7 +12,7 @@ use Rattle.log_reader.specs.Records.{Rest, cut}
 use Rattle.log_reader.specs.Standing.{Reading, Stands}
 use Rattle.monitor_run.specs.Passing.{Passes}
 use Rattle.monitor_run.specs.Report.{violation_lines}
-use Rattle.monitor_run.specs.Verdicts.{properties, names, AreVerdicts, false_count}
+use Rattle.monitor_run.specs.Verdicts.{properties, names, is_timed, AreVerdicts, false_count}
 use Rattle.monitor_run.specs.Stops.{AllFit, table_in, variables_in}
 use Rattle.monitor_run.specs.declared.judge.Judge.{Judge}
 use Rattle.monitor_run.specs.declared.limits.Limits.{Limits}
@@ -23,6 +24,10 @@ names_in m = map (λ q. q.name) m.plan.props
 -- and the verdicts on them at the last event
 abbrev pub row_of : monitor.State → List Bool
 row_of m = map (λ q. monitor.verdict_at m q.root) m.plan.props
+
+-- a row of the plan is a timed operator
+abbrev pub has_times : table.Table → Bool
+has_times plan = list_any (λ s. table.is_timed s.kind) plan.subs
 
 -- the plan of the monitor is that of the items' properties
 pub record IsPlanOf (items : List Item) (plan : table.Table) : Type 0 where
@@ -53,27 +58,29 @@ pub record StandsAt (limits : Limits) (items : List Item) (log : List Event) (ro
   pub events : judge.events ≡ length log
   pub violations : judge.violations ≡ false_count rows
 
--- of the records of these bytes, which were fed to the reader, these events were given
-pub record Fed (bytes : Text) (ended : Bool) (log : List Event) (r : Reading) : Type 0 where
+-- of the records of these bytes, which were fed to the reader and are read with times or without, these events were given
+pub record Fed (timed : Bool) (bytes : Text) (ended : Bool) (log : List Event) (r : Reading) : Type 0 where
   pub stands : Stands bytes r
-  pub untimed : r.timed ≡ false
+  pub times : r.timed ≡ timed
   pub closed : r.ended ≡ ended
   pub count : r.given ≡ length log
   pub later : List Event
-  pub first : (cut bytes false ended).events ≡ log ++ later
+  pub first : (cut bytes timed ended).events ≡ log ++ later
 
--- so many bytes were fed to the reader
-pub record IsFed (count : ℕ) (r : Reading) : Type 0 where
+-- so many bytes were fed to the reader, and this is the time of the event that it gave last; 0 where it gave none
+pub record IsFed (count : ℕ) (r : Reading) (last : ℕ) : Type 0 where
+  pub timed : Bool
   pub bytes : Text
   pub ended : Bool
   pub log : List Event
-  pub fed : Fed bytes ended log r
+  pub fed : Fed timed bytes ended log r
   pub size : length bytes ≡ count
+  pub time : time_at log (length log) ≡ last
 
 -- the same, and they are not more than these
-pub record IsFedWithin (most : ℕ) (r : Reading) : Type 0 where
+pub record IsFedWithin (most : ℕ) (r : Reading) (last : ℕ) : Type 0 where
   pub count : ℕ
-  pub fed : IsFed count r
+  pub fed : IsFed count r last
   pub few : count ≤ most
 
 -- Of a log these bytes were given, at most so many; of their events some were judged, and the violations of these were written
@@ -86,15 +93,15 @@ pub record Walked (limits : Limits) (items : List Item) (all : Text) (left sent0
   pub closed : ended ≡ true → rest ≡ []
   pub log : List Event
   pub rows : List (List Bool)
-  pub fed : Fed given ended log r
+  pub fed : Fed (is_timed items) given ended log r
   pub stands : StandsAt limits items log rows judge
   pub passed : Passes sent0 sent1 [] held (violation_lines 1 (names (properties items)) rows)
 
--- the records of the bytes are these events, and no fault
-abbrev pub AreAll : Text → Bool → List Event → Type 0
-AreAll given ended log = cut given false ended ≡ record { events = log; end = Rest }
+-- the records of the bytes, read with times or without, are these events, and no fault
+abbrev pub AreAll : Bool → Text → Bool → List Event → Type 0
+AreAll timed given ended log = cut given timed ended ≡ record { events = log; end = Rest }
 
 -- all events of the bytes were judged
 pub record WalkedAll (limits : Limits) (items : List Item) (all : Text) (left sent0 sent1 : Option Text) (given : Text) (ended : Bool) (judge : Judge) (r : Reading) (held : Text) : Type 0 where
   pub walked : Walked limits items all left sent0 sent1 given ended judge r held
-  pub done : AreAll given ended walked.log
+  pub done : AreAll (is_timed items) given ended walked.log

@@ -1,8 +1,11 @@
 -- The properties of a specification, and their verdicts over a log.
 use Rattle.std.specs.Prelude.{◌≡◌, ℕ, ◌+◌, ◌≤◌, ◌↔◌, List, [], ◌∷◌, length, map, Bool, IsTrue, get_or, if◌then◌else◌}
+use Rattle.std.specs.List.{list_any}
 use Rattle.qtl_syntax.specs.Tree.{Text, Formula, Item, Pred, Prop}
 use Rattle.qtl_truth.specs.declared.event.Event.{Event}
 use Rattle.qtl_truth.specs.Truth.{Holds}
+use Rattle.wellformed.specs.Expansion.{expanded_props}
+use Rattle.wellformed.specs.Timed.{has_timed}
 
 -- a property, with the items before it, the latest first: its macros are among them
 pub record Property : Type 0 where
@@ -22,6 +25,10 @@ properties items = properties_behind [] items
 
 abbrev pub names : List Property → List Text
 names ps = map (λ p. p.name) ps
+
+-- A property has a bound on time, once its macros are expanded. The log is then read with times.
+abbrev pub is_timed : List Item → Bool
+is_timed items = list_any (λ p. has_timed p.1) (expanded_props [] 0 items)
 
 -- the property is true at an event of the log
 abbrev pub IsTrueAt : List Event → ℕ → Property → Type 0

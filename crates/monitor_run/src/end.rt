@@ -30,8 +30,6 @@ pub enum End {
     Spec(SpecFault),
     /// Its names have this fault, the first one of the first pass that has one, which is never want of memory.
     Names(NameFault),
-    /// A property has a timed operator, once its macros are expanded.
-    NotBuilt,
     /// The log has this fault behind the events that were judged, which is never want of memory.
     Log(LogFault),
     /// The log has more than `limit` bytes, and nothing in these ended the run.
@@ -100,7 +98,7 @@ impl From<LogFault> for End {
 /// What a run answers.
 #[derive(Clone, Copy, Debug, PartialEq, Eq)]
 pub struct Outcome {
-    /// The exit status of `end`, from 0 to 8.
+    /// The exit status of `end`, from 0 to 7.
     pub status: u8,
     pub end: End,
     /// How many listeners were dropped: none, since there are no listeners yet.
@@ -137,7 +135,6 @@ impl End {
             End::ReadFault { which: _ } => 6,
             End::WriteFault => 6,
             End::NoMemory => 7,
-            End::NotBuilt => 8,
         }
     }
 }

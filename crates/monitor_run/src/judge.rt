@@ -148,9 +148,10 @@ pub fn judge_event<W: Sink, L: Ledger>(
 ) -> Result<(), End>
     requires ready { IsReady judge.old }
     requires few { judge.old.events < 2 ^ 48 }
-    requires time { event.now.time ≡ 0 }
+    requires time { judge.old.monitor.last_time ≤ event.now.time }
     ensures plan { KeepsPlan judge.old judge.new }
     ensures ready { OnOk result (IsReady judge.new) }
+    ensures time { OnOk result (judge.new.monitor.last_time ≡ event.now.time) }
     ensures judged { (log : List TheEvent) → judge.old.events ≡ length log → StandsFor judge.old.monitor log → Judges judge.old judge.new log event.now result }
     ensures written { WritesEvent judge.old judge.new (W.written out.old) (W.written out.new) output.old output.new result }
     ensures cause { IfErr result (λ end. HasFaultCause ⊥ (Rose (W.faults out.old) (W.faults out.new)) end) }

@@ -381,7 +381,6 @@ fn put_last<W: Sink>(
         End::Spec(fault) => put_spec_fault(output, out, fault),
         End::Names(fault) => put_name_fault(output, out, fault),
         End::Log(fault) => put_log_fault(output, out, fault),
-        End::NotBuilt => output.put(out, b"stopped: not built\n"),
         End::LogTooLong { limit } => {
             put_numbered(
                 output,

@@ -11,7 +11,7 @@ ghost use Rattle.monitor_run.specs.Cost.{IsAsked};
 ghost use Rattle.monitor_run.specs.Files.{IsReadingEnd};
 ghost use Rattle.monitor_run.specs.Judging.{IsReady, KeepsPlan, Spends};
 ghost use Rattle.monitor_run.specs.Reading.{LogReached, IsReadEnd};
-ghost use Rattle.monitor_run.specs.Standing.{IsFed, IsFedWithin, StandsAt, WalkedAll};
+ghost use Rattle.monitor_run.specs.Standing.{IsFed, IsFedWithin, StandsAt, WalkedAll, has_times};
 ghost use Rattle.monitor_run.specs.declared.limits.Limits as declared;
 
 use crate::end::{End, Which};
@@ -85,7 +85,7 @@ fn take_turn<S: Source, W: Sink, L: Ledger>(
     requires room { 0 < length room.old }
     requires some { 0 < most }
     requires on { reader.old.ended ≡ false }
-    requires fed { (count : ℕ) × IsFed count reader.old × (count + most ≤ 281474976710656) }
+    requires fed { (count : ℕ) × IsFed count reader.old judge.old.monitor.last_time × (count + most ≤ 281474976710656) }
     requires events { judge.old.events ≡ reader.old.given }
     requires ready { IsReady judge.old }
     ensures length { length room.new ≡ length room.old }
@@ -100,7 +100,7 @@ fn take_turn<S: Source, W: Sink, L: Ledger>(
         length given + most ≤ limits.log →
         WalkedAll limits items all (S.left source.old) sent (W.written out.old) given false judge.old reader.old output.old →
         LogReached limits items all (S.left source.new) sent (W.written out.new) output.new end judge.new.events) }
-    ensures fed { IfOk result (λ n. (count : ℕ) → IsFed count reader.old → IsFed (count + n) reader.new) }
+    ensures fed { IfOk result (λ n. (count : ℕ) → IsFed count reader.old judge.old.monitor.last_time → IsFed (count + n) reader.new judge.new.monitor.last_time) }
     ensures events { OnOk result (judge.new.events ≡ reader.new.given) }
     ensures ready { OnOk result (IsReady judge.new) }
     ensures plan { KeepsPlan judge.old judge.new }
@@ -110,7 +110,7 @@ fn take_turn<S: Source, W: Sink, L: Ledger>(
     ensures out_later { W.faults out.old ≤ W.faults out.new }
     ensures asked { IfErr result (λ end. (limits : declared.Limits) (items : List tree.Item) (all : tree.Text) (sent : Option tree.Text) (given : tree.Text) →
         length given + most ≤ limits.log →
-        WalkedAll limits items all (S.left source.old) sent (W.written out.old) given false judge.old reader.old output.old → IsAsked limits all end reader.new.given) }
+        WalkedAll limits items all (S.left source.old) sent (W.written out.old) given false judge.old reader.old output.old → IsAsked limits items all end reader.new.given) }
     ensures cost { IsLarge judge.old.monitor.shelf → Spends (step_bound judge.old.monitor) judge.old.events reader.new.given steps.old steps.new }
 {
     let count = match fetch(room, source, output, out, most) {
@@ -148,14 +148,14 @@ fn end_log<W: Sink, L: Ledger>(
     steps: &mut Steps<L>,
 ) -> End
     requires on { reader.old.ended ≡ false }
-    requires fed { IsFedWithin 281474976710656 reader.old }
+    requires fed { IsFedWithin 281474976710656 reader.old judge.old.monitor.last_time }
     requires events { judge.old.events ≡ reader.old.given }
     requires ready { IsReady judge.old }
     ensures reached { (limits : declared.Limits) (items : List tree.Item) (all : tree.Text) (left : Option tree.Text) (sent : Option tree.Text) (given : tree.Text) →
         WalkedAll limits items all left sent (W.written out.old) given false judge.old reader.old output.old → IsAtEnd left →
         LogReached limits items all left sent (W.written out.new) output.new result judge.new.events }
     ensures asked { (limits : declared.Limits) (items : List tree.Item) (all : tree.Text) (left : Option tree.Text) (sent : Option tree.Text) (given : tree.Text) →
-        WalkedAll limits items all left sent (W.written out.old) given false judge.old reader.old output.old → IsAtEnd left → IsAsked limits all result reader.new.given }
+        WalkedAll limits items all left sent (W.written out.old) given false judge.old reader.old output.old → IsAtEnd left → IsAsked limits items all result reader.new.given }
     ensures plan { KeepsPlan judge.old judge.new }
     ensures cause { HasFaultCause ⊥ (Rose (W.faults out.old) (W.faults out.new)) result }
     ensures reading { IsReadingEnd result }
@@ -182,14 +182,14 @@ fn past_limit<S: Source, W: Sink, L: Ledger>(
 ) -> End
     requires room { 0 < length room.old }
     requires on { reader.old.ended ≡ false }
-    requires fed { IsFedWithin 281474976710656 reader.old }
+    requires fed { IsFedWithin 281474976710656 reader.old judge.old.monitor.last_time }
     requires events { judge.old.events ≡ reader.old.given }
     requires ready { IsReady judge.old }
     ensures reached { (items : List tree.Item) (all : tree.Text) (sent : Option tree.Text) (given : tree.Text) →
         WalkedAll limits items all (S.left source.old) sent (W.written out.old) given false judge.old reader.old output.old → length given ≡ limits.log →
         LogReached limits items all (S.left source.new) sent (W.written out.new) output.new result judge.new.events }
     ensures asked { (items : List tree.Item) (all : tree.Text) (sent : Option tree.Text) (given : tree.Text) →
-        WalkedAll limits items all (S.left source.old) sent (W.written out.old) given false judge.old reader.old output.old → IsAsked limits all result reader.new.given }
+        WalkedAll limits items all (S.left source.old) sent (W.written out.old) given false judge.old reader.old output.old → IsAsked limits items all result reader.new.given }
     ensures plan { KeepsPlan judge.old judge.new }
     ensures cause { HasFaultCause (Rose (S.faults source.old) (S.faults source.new)) (Rose (W.faults out.old) (W.faults out.new)) result }
     ensures reading { IsReadingEnd result }
@@ -216,16 +216,17 @@ pub fn read_log<S: Source, W: Sink, L: Ledger>(
     steps: &mut Steps<L>,
     limits: Limits,
 ) -> End
-    requires fresh { reader.old ≡ fresh_reading false }
+    requires fresh { reader.old ≡ fresh_reading (has_times judge.old.monitor.plan) }
     requires stands { Stands [] reader.old }
     requires room { 0 < length room.old }
     requires events { judge.old.events ≡ 0 }
+    requires time { judge.old.monitor.last_time ≡ 0 }
     requires ready { IsReady judge.old }
     requires nothing { output.old ≡ [] }
     requires small { limits.log ≤ 281474976710656 }
     ensures reached { (items : List tree.Item) (all : tree.Text) → StandsAt limits items [] [] judge.old → S.left source.old ≡ Some all →
         LogReached limits items all (S.left source.new) (W.written out.old) (W.written out.new) output.new result judge.new.events }
-    ensures asked { (items : List tree.Item) (all : tree.Text) → StandsAt limits items [] [] judge.old → S.left source.old ≡ Some all → IsAsked limits all result reader.new.given }
+    ensures asked { (items : List tree.Item) (all : tree.Text) → StandsAt limits items [] [] judge.old → S.left source.old ≡ Some all → IsAsked limits items all result reader.new.given }
     ensures plan { KeepsPlan judge.old judge.new }
     ensures cause { HasFaultCause (Rose (S.faults source.old) (S.faults source.new)) (Rose (W.faults out.old) (W.faults out.new)) result }
     ensures reading { IsReadingEnd result }

@@ -93,6 +93,7 @@ fn run_log<F: Files, W: Sink, L: Ledger>(
     limits: Limits,
 ) -> Reached
     requires events { judge.events ≡ 0 }
+    requires time { judge.monitor.last_time ≡ 0 }
     requires ready { IsReady judge }
     requires nothing { output.old ≡ [] }
     requires small { limits.log ≤ 281474976710656 }
@@ -115,7 +116,8 @@ fn run_log<F: Files, W: Sink, L: Ledger>(
         Ok(room) => room,
         Err(_) => return early(End::NoMemory),
     };
-    let mut reader = match LogReader::open(alloc, false) {
+    let timed = judge.monitor.plan().is_timed();
+    let mut reader = match LogReader::open(alloc, timed) {
         Ok(reader) => reader,
         Err(_) => return early(End::NoMemory),
     };

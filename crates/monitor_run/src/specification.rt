@@ -106,6 +106,7 @@ pub fn judge_in(alloc: Global, text: &[u8], limits: Limits) -> Result<Judge, End
     requires short { length text.now ≤ 1048576 }
     ensures ok { IfOk result (λ judge. IsSpelled limits text.now judge) }
     ensures fresh { IfOk result (λ judge. judge.events ≡ 0) }
+    ensures time { IfOk result (λ judge. judge.monitor.last_time ≡ 0) }
     ensures ready { IfOk result IsReady }
     ensures err { IfErr result (λ end. IsUnspelled text.now end) }
 {
@@ -125,9 +126,6 @@ pub fn judge_in(alloc: Global, text: &[u8], limits: Limits) -> Result<Judge, End
     };
     // A law, for a condition of `Monitor::open`.
     short_texts_have_few_terms();
-    if plan.is_timed() {
-        return Err(End::NotBuilt);
-    }
     let sizes = Sizes {
         bits: limits.bits,
         nodes: limits.nodes,
@@ -155,6 +153,7 @@ pub fn read_specification<F: Files>(
     requires lawful { AreLawful limits }
     ensures ok { IfOk result (λ judge. SpecRead limits (F.texts files.old) name.now judge) }
     ensures fresh { IfOk result (λ judge. judge.events ≡ 0) }
+    ensures time { IfOk result (λ judge. judge.monitor.last_time ≡ 0) }
     ensures ready { IfOk result IsReady }
     ensures err { IfErr result (λ end. SpecRefused (F.texts files.old) name.now (Rose (F.faults files.old) (F.faults files.new)) end) }
     ensures opened { IfOk result (λ _. Gained (F.opened files.old) (F.opened files.new) (name.now ∷ [])) }

@@ -259,19 +259,88 @@ const PROPERTIES: &[Case] = &[
     ),
 ];
 
-const NOT_BUILT: &[Case] = &[
-    ("prop r : P[<=7] go", "go\n", "stopped: not built\n", 8),
+/// Specifications whose properties have a bound on time, and one whose macro has one that no property calls.
+const TIMED: &[Case] = &[
+    (
+        "prop h : H[>5] ok",
+        "ok,0\nbad,1\nok,6\nok,7\n",
+        "violation 4 h\nevents 4 violations 1\n",
+        1,
+    ),
+    (
+        "prop h : H[<=5] ok",
+        "bad,0\nok,5\nok,6\n",
+        "violation 1 h\nviolation 2 h\nevents 3 violations 2\n",
+        1,
+    ),
+    (
+        "prop r : P[<=7] go",
+        "go,0\nidle,7\nidle,8\n",
+        "violation 3 r\nevents 3 violations 1\n",
+        1,
+    ),
+    (
+        "prop s : a S[>3] b",
+        "b,0\na,3\na,4",
+        "violation 1 s\nviolation 2 s\nevents 3 violations 2\n",
+        1,
+    ),
+    (
+        "prop t : forall x . done(x) -> P[<=10] start(x)",
+        "start,a,0\nstart,b,5\ndone,a,10\ndone,b,16\n",
+        "violation 4 t\nevents 4 violations 1\n",
+        1,
+    ),
     (
         "pred m() = forall x . P[>7] a(x) prop r : go & m",
-        "go\n",
-        "stopped: not built\n",
-        8,
+        "go,0\n",
+        "violation 1 r\nevents 1 violations 1\n",
+        1,
     ),
     (
         "pred m() = P[>7] a prop r : go",
-        "go\n",
+        "go\ngo,7\n",
+        "violation 2 r\nevents 2 violations 1\n",
+        1,
+    ),
+    (
+        "prop h : H[<=5] ok",
+        "ok,18446744073709551615\n",
         "events 1 violations 0\n",
         0,
+    ),
+];
+
+const TIME_FAULTS: &[Case] = &[
+    (
+        "prop h : H[<=5] ok",
+        "ok,5\nok,4\n",
+        "stopped: time falls from 5 to 4 at record 2\n",
+        4,
+    ),
+    (
+        "prop h : H[<=5] ok",
+        "bad,5\nok,5\nok,4\n",
+        "violation 1 h\nviolation 2 h\nstopped: time falls from 5 to 4 at record 3\n",
+        4,
+    ),
+    (
+        "prop r : P[<=7] go",
+        "go\n",
+        "stopped: bad time at record 1\n",
+        4,
+    ),
+    (
+        "pred m() = forall x . P[>7] a(x) prop r : go & m",
+        "go\n",
+        "stopped: bad time at record 1\n",
+        4,
+    ),
+    (
+        "prop h : H[<=5] ok",
+        "ok,18446744073709551616\n",
+        "stopped: bad time at record 1\n",
+        4,
     ),
 ];
 
@@ -501,7 +570,8 @@ fn reports_in_pieces_of_any_size(rt: HostRuntime) -> Result<(), Fail> {
         RECORD_FAULTS,
         PROPERTIES,
         QUANTIFIED,
-        NOT_BUILT,
+        TIMED,
+        TIME_FAULTS,
         NAME_FAULTS,
         SPEC_FAULTS,
     ] {

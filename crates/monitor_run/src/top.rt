@@ -53,7 +53,7 @@ fn run_to_end<F: Files, W: Sink, L: Ledger>(
 ///
 /// `words` are SPEC and LOG, the names of the two files. For each event of the log and each property that is false there a line
 /// is written, and then the end line or the stop line. Lines are held back at most until the next read of the log and
-/// until the call answers. The status is that of the end, from 0 to 8; no listener is dropped, as there are none yet.
+/// until the call answers. The status is that of the end, from 0 to 7; no listener is dropped, as there are none yet.
 ///
 /// An event that needs more codes or nodes than the limits have ends the run. A code or a node is used again once nothing that
 /// is remembered tells it apart, so a log of any length may stay within them.

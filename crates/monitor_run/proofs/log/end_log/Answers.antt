@@ -6,7 +6,8 @@ use Rattle.monitor_run.proofs.log.end_log.Goals as goal
 pub judge_fed-requires-clause-fed : goal.judge_fed-requires-clause-fed
 judge_fed-requires-clause-fed g c =
     let e = c.end.ensures in
-    is_fed_within 281474976710656 c.args.reader.now c.end.new.self (λ count. is_fed_end count c.args.reader.now c.end.new.self c.requires.on e.timed e.ended e.given e.stands) c.requires.fed
+    let last = c.args.judge.now.monitor.last_time in
+    is_fed_within 281474976710656 c.args.reader.now c.end.new.self last last (λ count. is_fed_end count c.args.reader.now c.end.new.self last c.requires.on e.timed e.ended e.given e.stands) c.requires.fed
 
 pub returns-in-Ok-clause-reached : goal.returns-in-Ok-clause-reached
 returns-in-Ok-clause-reached g c limits items all left sent given a at_end =
@@ -26,7 +27,7 @@ returns-in-Ok-clause-asked g c limits items all left sent given a at_end =
     let walk = walked_end limits items all left sent _ given c.args.judge.now c.args.reader.now c.end.new.self c.args.output.now a at_end e.timed e.ended e.given e.stands in
     let after = c.in-Ok.ensures.ok limits items all left sent given _ walk in
     let few = walked_few limits items all left sent _ given _ c.judge_fed.new.judge c.judge_fed.new.reader c.judge_fed.new.reader c.judge_fed.new.output after.walked.log after.walked after.walked.fed in
-    rw c.verdict_of.ensures.is (verdicts_asked limits all c.judge_fed.new.judge.violations c.judge_fed.new.reader.given few)
+    rw c.verdict_of.ensures.is (verdicts_asked limits items all c.judge_fed.new.judge.violations c.judge_fed.new.reader.given few)
 
 pub returns-in-Err-clause-asked : goal.returns-in-Err-clause-asked
 returns-in-Err-clause-asked g c limits items all left sent given a at_end =

@@ -1,5 +1,6 @@
 use Rattle.std.proofs.Common.{◌∙◌, ◌+◌, ◌++◌, [], sym, refl, ap, length-append, arith}
 use Rattle.monitor_step.specs.Monitor.{step_bound}
+use Rattle.monitor_run.specs.Standing.{has_times}
 use Rattle.monitor_run.proofs.Given.{is_fed_start}
 use Rattle.monitor_run.proofs.Spending.{calls_cost, keeps_none, keeps_trans, spends_none, spends_to}
 use Rattle.monitor_run.proofs.Walks.{walked_start}
@@ -10,7 +11,7 @@ pieces-init g c = record {
   walked = λ items all s is. ([], refl, walked_start c.args.limits items all _ _ c.args.judge.now c.args.reader.now c.args.output.now s is c.requires.fresh c.requires.stands c.requires.nothing);
   room = c.requires.room;
   closed = ap (λ r. r.ended) c.requires.fresh;
-  fed = is_fed_start c.args.reader.now c.requires.fresh c.requires.stands;
+  fed = is_fed_start (has_times c.args.judge.now.monitor.plan) c.args.reader.now c.args.judge.now.monitor.last_time c.requires.fresh c.requires.stands c.requires.time;
   events = c.requires.events ∙ sym (ap (λ r. r.given) c.requires.fresh);
   ready = c.requires.ready;
   plan = keeps_none c.args.judge.now;

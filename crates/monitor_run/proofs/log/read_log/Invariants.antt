@@ -13,7 +13,7 @@ invariant-pieces g l = record {
       × WalkedAll l.limits items all (g.S.Source.left l.source) (g.W.Sink.written l.fn.out) (g.W.Sink.written l.out) given false l.judge l.reader l.output;
   room : 0 < length l.room;
   closed : l.reader.ended ≡ false;
-  fed : IsFed l.taken l.reader;
+  fed : IsFed l.taken l.reader l.judge.monitor.last_time;
   events : l.judge.events ≡ l.reader.given;
   ready : IsReady l.judge;
   plan : KeepsPlan l.fn.judge l.judge;

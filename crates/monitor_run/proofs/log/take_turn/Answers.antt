@@ -46,7 +46,7 @@ judge_fed-requires-clause-fed g c =
     let piece = take c.in-Ok.count c.fetch.new.room in
     record {
       count = f.0 + length piece;
-      fed = is_fed_piece f.0 piece c.args.reader.now c.feed.new.self c.requires.on e.fed e.stands f.1;
+      fed = is_fed_piece f.0 piece c.args.reader.now c.feed.new.self c.args.judge.now.monitor.last_time c.requires.on e.fed e.stands f.1;
       few = let n = length-take-le c.in-Ok.count c.fetch.new.room c.in-Ok.ensures.within in omega (arith, n, f.2, c.in-Ok.ensures.most);
     }
 
@@ -67,7 +67,7 @@ returns-in-Ok-judge_fed-clause-fed g c count f =
     let e = c.in-Ok-feed.ensures in
     let piece = take c.in-Ok.count c.fetch.new.room in
     let n = length-take-le c.in-Ok.count c.fetch.new.room c.in-Ok.ensures.within in
-    c.in-Ok-judge_fed.ensures.fed (count + c.in-Ok.count) (rw (← n) (is_fed_piece count piece c.args.reader.now c.feed.new.self c.requires.on e.fed e.stands f))
+    c.in-Ok-judge_fed.ensures.fed (count + c.in-Ok.count) (rw (← n) (is_fed_piece count piece c.args.reader.now c.feed.new.self c.args.judge.now.monitor.last_time c.requires.on e.fed e.stands f))
 
 pub returns-in-Err-judge_fed-clause-err : goal.returns-in-Err-judge_fed-clause-err
 returns-in-Err-judge_fed-clause-err g c limits items all sent given short a =

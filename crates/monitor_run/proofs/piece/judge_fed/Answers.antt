@@ -1,4 +1,4 @@
-use Rattle.std.proofs.Common.{◌∙◌, ◌++◌, ◌∷◌, [], ℕ, refl, sym, arith}
+use Rattle.std.proofs.Common.{◌∙◌, ◌++◌, ◌∷◌, [], ℕ, refl, sym, subst, arith}
 use Rattle.monitor_step.specs.Monitor.{step_bound}
 use Rattle.monitor_run.specs.Standing.{IsFed, IsFedWithin}
 use Rattle.monitor_run.proofs.Ends.{cause_more, rose_after, log_cause, log_reading}
@@ -24,7 +24,7 @@ records-init g c = record {
 }
 
 pub next-requires : goal.next-requires
-next-requires g c = record { room = let n = few_fed 281474976710656 c.records.reader c.records.invariant.within in omega (arith, n) }
+next-requires g c = record { room = let n = few_fed 281474976710656 c.records.reader c.records.judge.monitor.last_time c.records.invariant.within in omega (arith, n) }
 
 pub judge_event-requires-clause-ready : goal.judge_event-requires-clause-ready
 judge_event-requires-clause-ready g c = c.records.invariant.ready
@@ -33,8 +33,8 @@ pub judge_event-requires-clause-few : goal.judge_event-requires-clause-few
 judge_event-requires-clause-few g c =
     let e = c.in-Ok-Some.ensures in
     let t = c.next.new.self in
-    let more : IsFedWithin 281474976710656 t = is_fed_within 281474976710656 c.records.reader t (λ count. is_fed_event count c.records.reader t c.in-Ok-Some.field-0 c.in-Ok-Some.event c.in-Ok-Some.field-0-is e.answer e.stands e.timed e.ended e.given) c.records.invariant.within in
-    let n = few_fed 281474976710656 t more in
+    let more : IsFedWithin 281474976710656 t c.in-Ok-Some.event.time = is_fed_within 281474976710656 c.records.reader t c.records.judge.monitor.last_time c.in-Ok-Some.event.time (λ count. is_fed_event count c.records.reader t c.records.judge.monitor.last_time c.in-Ok-Some.field-0 c.in-Ok-Some.event c.in-Ok-Some.field-0-is e.answer e.stands e.timed e.ended e.given) c.records.invariant.within in
+    let n = few_fed 281474976710656 t c.in-Ok-Some.event.time more in
     let one = given_more c.in-Ok-Some.field-0 c.in-Ok-Some.event c.records.reader.given t.given c.in-Ok-Some.field-0-is e.given in
     omega (arith, n, one, c.records.invariant.events)
 
@@ -43,8 +43,9 @@ judge_event-requires-clause-time g c =
     let e = c.in-Ok-Some.ensures in
     let t = c.next.new.self in
     let f = c.records.invariant.within.fed in
-    fed_time f.bytes f.ended f.log c.in-Ok-Some.event t
-    (fed_event f.bytes f.ended f.log c.records.reader t c.in-Ok-Some.field-0 c.in-Ok-Some.event c.in-Ok-Some.field-0-is f.fed (e.answer f.bytes f.fed.stands) (e.stands f.bytes f.fed.stands) e.timed e.ended e.given)
+    let later = fed_time c.times_never_fall.ensures.rising f.timed f.bytes f.ended f.log c.in-Ok-Some.event t
+    (fed_event f.timed f.bytes f.ended f.log c.records.reader t c.in-Ok-Some.field-0 c.in-Ok-Some.event c.in-Ok-Some.field-0-is f.fed (e.answer f.bytes f.fed.stands) (e.stands f.bytes f.fed.stands) e.timed e.ended e.given) in
+    omega (arith, later, f.time)
 
 pub returns-in-Err-judge_event-clause-err : goal.returns-in-Err-judge_event-clause-err
 returns-in-Err-judge_event-clause-err g c limits items all left sent given ended walked =
@@ -52,7 +53,7 @@ returns-in-Err-judge_event-clause-err g c limits items all left sent given ended
     let e = c.in-Ok-Some.ensures in
     let j = c.in-Err-judge_event.ensures in
     let t = c.next.new.self in
-    let fed = fed_event given ended w.log c.records.reader t c.in-Ok-Some.field-0 c.in-Ok-Some.event c.in-Ok-Some.field-0-is w.fed (e.answer given w.fed.stands) (e.stands given w.fed.stands) e.timed e.ended e.given in
+    let fed = fed_event _ given ended w.log c.records.reader t c.in-Ok-Some.field-0 c.in-Ok-Some.event c.in-Ok-Some.field-0-is w.fed (e.answer given w.fed.stands) (e.stands given w.fed.stands) e.timed e.ended e.given in
     walk_refused limits items all left sent _ _ given ended c.records.judge c.judge_event.new.judge c.records.reader t c.records.output c.judge_event.new.output c.in-Ok-Some.event c.in-Err-judge_event.end w fed
     j.plan (j.judged w.log w.stands.events w.stands.stands) j.written
 
@@ -76,9 +77,9 @@ returns-in-Err-judge_event-clause-asked g c limits items all left sent given end
     let w = c.records.invariant.walked limits items all left sent given ended walked in
     let e = c.in-Ok-Some.ensures in
     let t = c.next.new.self in
-    let fed = fed_event given ended w.log c.records.reader t c.in-Ok-Some.field-0 c.in-Ok-Some.event c.in-Ok-Some.field-0-is w.fed (e.answer given w.fed.stands) (e.stands given w.fed.stands) e.timed e.ended e.given in
+    let fed = fed_event _ given ended w.log c.records.reader t c.in-Ok-Some.field-0 c.in-Ok-Some.event c.in-Ok-Some.field-0-is w.fed (e.answer given w.fed.stands) (e.stands given w.fed.stands) e.timed e.ended e.given in
     let one = given_more c.in-Ok-Some.field-0 c.in-Ok-Some.event c.records.reader.given t.given c.in-Ok-Some.field-0-is e.given in
-    refused_asked limits all c.records.judge c.judge_event.new.judge w.log c.in-Ok-Some.event c.in-Err-judge_event.end t.given
+    refused_asked limits items all c.records.judge c.judge_event.new.judge w.log c.in-Ok-Some.event c.in-Err-judge_event.end t.given
     (c.in-Err-judge_event.ensures.judged w.log w.stands.events w.stands.stands) (omega (arith, one, c.records.invariant.events))
     (walked_few limits items all left sent _ given ended c.records.judge c.records.reader t c.records.output (w.log ++ c.in-Ok-Some.event ∷ []) w fed)
 
@@ -86,8 +87,8 @@ pub records-smaller : goal.records-smaller
 records-smaller g c =
     let e = c.in-Ok-Some.ensures in
     let t = c.next.new.self in
-    let more : IsFedWithin 281474976710656 t = is_fed_within 281474976710656 c.records.reader t (λ count. is_fed_event count c.records.reader t c.in-Ok-Some.field-0 c.in-Ok-Some.event c.in-Ok-Some.field-0-is e.answer e.stands e.timed e.ended e.given) c.records.invariant.within in
-    let n = few_fed 281474976710656 t more in
+    let more : IsFedWithin 281474976710656 t c.in-Ok-Some.event.time = is_fed_within 281474976710656 c.records.reader t c.records.judge.monitor.last_time c.in-Ok-Some.event.time (λ count. is_fed_event count c.records.reader t c.records.judge.monitor.last_time c.in-Ok-Some.field-0 c.in-Ok-Some.event c.in-Ok-Some.field-0-is e.answer e.stands e.timed e.ended e.given) c.records.invariant.within in
+    let n = few_fed 281474976710656 t c.in-Ok-Some.event.time more in
     let one = given_more c.in-Ok-Some.field-0 c.in-Ok-Some.event c.records.reader.given t.given c.in-Ok-Some.field-0-is e.given in
     omega (arith, n, one)
 
@@ -97,14 +98,17 @@ records-preserved g c =
     let e = c.in-Ok-Some.ensures in
     let j = c.in-Ok.ensures in
     let t = c.next.new.self in
-    let on : (count : ℕ) → IsFed count c.records.reader → IsFed count t = λ count. is_fed_event count c.records.reader t c.in-Ok-Some.field-0 c.in-Ok-Some.event c.in-Ok-Some.field-0-is e.answer e.stands e.timed e.ended e.given in
+    let last : ℕ = c.records.judge.monitor.last_time in
+    let now : ℕ = c.judge_event.new.judge.monitor.last_time in
+    let on : (count : ℕ) → IsFed count c.records.reader last → IsFed count t now = λ count f.
+        subst (λ (n : ℕ). IsFed count t n) (sym j.time) (is_fed_event count c.records.reader t last c.in-Ok-Some.field-0 c.in-Ok-Some.event c.in-Ok-Some.field-0-is e.answer e.stands e.timed e.ended e.given f) in
     record {
       walked = λ limits items all left sent given ended walked.
           let w = i.walked limits items all left sent given ended walked in
-          let fed = fed_event given ended w.log c.records.reader t c.in-Ok-Some.field-0 c.in-Ok-Some.event c.in-Ok-Some.field-0-is w.fed (e.answer given w.fed.stands) (e.stands given w.fed.stands) e.timed e.ended e.given in
+          let fed = fed_event _ given ended w.log c.records.reader t c.in-Ok-Some.field-0 c.in-Ok-Some.event c.in-Ok-Some.field-0-is w.fed (e.answer given w.fed.stands) (e.stands given w.fed.stands) e.timed e.ended e.given in
           walked_event limits items all left sent _ _ given ended c.records.judge c.judge_event.new.judge c.records.reader t c.records.output c.judge_event.new.output c.in-Ok-Some.event w fed
           j.plan (j.judged w.log w.stands.events w.stands.stands) j.written;
-      within = is_fed_within 281474976710656 c.records.reader t on i.within;
+      within = is_fed_within 281474976710656 c.records.reader t last now on i.within;
       fed = λ count f. on count (i.fed count f);
       closed = e.ended ∙ i.closed;
       events = let one = given_more c.in-Ok-Some.field-0 c.in-Ok-Some.event c.records.reader.given t.given c.in-Ok-Some.field-0-is e.given in let two = j.written.0 in omega (arith, two, i.events, one);
@@ -119,13 +123,13 @@ returns-in-Ok-None-clause-ok g c limits items all left sent given ended walked =
     let w = c.records.invariant.walked limits items all left sent given ended walked in
     let e = c.in-Ok-None.ensures in
     walked_all limits items all left sent _ given ended c.records.judge c.records.reader c.next.new.self c.records.output w
-    (fed_still given ended w.log c.records.reader c.next.new.self c.in-Ok-None.field-0 c.in-Ok-None.field-0-is w.fed (e.stands given w.fed.stands) e.timed e.ended e.given)
-    (fed_all given ended w.log c.records.reader c.in-Ok-None.field-0 c.in-Ok-None.field-0-is w.fed (e.answer given w.fed.stands))
+    (fed_still _ given ended w.log c.records.reader c.next.new.self c.in-Ok-None.field-0 c.in-Ok-None.field-0-is w.fed (e.stands given w.fed.stands) e.timed e.ended e.given)
+    (fed_all _ given ended w.log c.records.reader c.in-Ok-None.field-0 c.in-Ok-None.field-0-is w.fed (e.answer given w.fed.stands))
 
 pub returns-in-Ok-None-clause-fed : goal.returns-in-Ok-None-clause-fed
 returns-in-Ok-None-clause-fed g c count f =
     let e = c.in-Ok-None.ensures in
-    is_fed_still count c.records.reader c.next.new.self c.in-Ok-None.field-0 c.in-Ok-None.field-0-is e.stands e.timed e.ended e.given (c.records.invariant.fed count f)
+    is_fed_still count c.records.reader c.next.new.self c.records.judge.monitor.last_time c.in-Ok-None.field-0 c.in-Ok-None.field-0-is e.stands e.timed e.ended e.given (c.records.invariant.fed count f)
 
 pub returns-in-Ok-None-clause-on : goal.returns-in-Ok-None-clause-on
 returns-in-Ok-None-clause-on g c = c.in-Ok-None.ensures.ended ∙ c.records.invariant.closed
@@ -151,7 +155,7 @@ pub returns-in-Err-clause-err : goal.returns-in-Err-clause-err
 returns-in-Err-clause-err g c limits items all left sent given ended walked =
     let w = c.records.invariant.walked limits items all left sent given ended walked in
     let e = c.in-Err.ensures in
-    rw c.into.ensures (fault_reached limits items all left sent _ given ended c.records.judge c.records.reader c.records.output c.in-Err.fault w (fed_fault given ended w.log c.records.reader c.in-Err.fault w.fed (e.answer given w.fed.stands)))
+    rw c.into.ensures (fault_reached limits items all left sent _ given ended c.records.judge c.records.reader c.records.output c.in-Err.fault w (fed_fault _ given ended w.log c.records.reader c.in-Err.fault w.fed (e.answer given w.fed.stands)))
 
 pub returns-in-Err-clause-plan : goal.returns-in-Err-clause-plan
 returns-in-Err-clause-plan g c = c.records.invariant.plan
@@ -174,4 +178,4 @@ returns-in-Err-clause-asked g c limits items all left sent given ended walked =
     let w = c.records.invariant.walked limits items all left sent given ended walked in
     let few = walked_few limits items all left sent _ given ended c.records.judge c.records.reader c.records.reader c.records.output w.log w w.fed in
     let same = c.in-Err.ensures.given in
-    rw c.into.ensures (fault_asked limits all c.in-Err.fault c.next.new.self.given (omega (arith, same, few)))
+    rw c.into.ensures (fault_asked limits items all c.in-Err.fault c.next.new.self.given (omega (arith, same, few)))

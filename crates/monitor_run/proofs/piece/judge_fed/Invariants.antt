@@ -13,8 +13,8 @@ invariant-records g l = record {
   walked : (limits : Limits) (items : List Item) (all : Text) (left sent : Option Text) (given : Text) (ended : Bool) →
       Walked limits items all left sent (g.W.Sink.written l.fn.out) given ended l.fn.judge l.fn.reader l.fn.output →
       Walked limits items all left sent (g.W.Sink.written l.out) given ended l.judge l.reader l.output;
-  within : IsFedWithin 281474976710656 l.reader;
-  fed : (count : ℕ) → IsFed count l.fn.reader → IsFed count l.reader;
+  within : IsFedWithin 281474976710656 l.reader l.judge.monitor.last_time;
+  fed : (count : ℕ) → IsFed count l.fn.reader l.fn.judge.monitor.last_time → IsFed count l.reader l.judge.monitor.last_time;
   closed : l.reader.ended ≡ l.fn.reader.ended;
   events : l.judge.events ≡ l.reader.given;
   ready : IsReady l.judge;

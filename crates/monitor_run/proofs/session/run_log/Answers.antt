@@ -38,4 +38,4 @@ pub returns-in-Ok-open-2-clause-cost : goal.returns-in-Ok-open-2-clause-cost
 returns-in-Ok-open-2-clause-cost g c items stands ample =
     opened_cost c.args.limits (g.F.Files.texts c.args.files.now) c.args.name.now items c.args.judge _ c.reached_at.result.end c.args.judge.events c.read_log-end.new.reader.given _ _ stands ample c.requires.events
     c.in-Ok-open-2.ensures.text
-    (λ all is. reached_asked c.args.limits all c.read_log-end.new.judge c.read_log-end.result c.reached_at.result c.read_log-end.new.reader.given c.reached_at.ensures (c.read_log-end.ensures.asked items all stands is)) c.read_log-end.ensures.cost
+    (λ all is. reached_asked c.args.limits items all c.read_log-end.new.judge c.read_log-end.result c.reached_at.result c.read_log-end.new.reader.given c.reached_at.ensures (c.read_log-end.ensures.asked items all stands is)) c.read_log-end.ensures.cost

@@ -7,23 +7,16 @@ use Rattle.wellformed.specs.Expansion.{expanded_props}
 use Rattle.wellformed.specs.Kept.{AreKept}
 use Rattle.monitor_run.specs.Standing.{IsPlanOf}
 use Rattle.monitor_run.specs.Stops.{table_in, variables_in}
-use Rattle.monitor_run.proofs.Specifications.{built_when, built_where, judge_stands}
-use Rattle.monitor_run.proofs.Untimed.{untimed_plan}
+use Rattle.monitor_run.proofs.FewTerms.{plan_few}
+use Rattle.monitor_run.proofs.Specifications.{judge_stands}
 use Rattle.monitor_run.proofs.specification.judge_in.Goals as goal
 
-pub returns-then-is_timed-clause-err : goal.returns-then-is_timed-clause-err
-returns-then-is_timed-clause-err c =
+pub open-requires-clause-few_terms : goal.open-requires-clause-few_terms
+open-requires-clause-few_terms c =
     let items : List Item = items_of c.in-Ok.spec in
     let plan : table.Table = c.in-Ok-make_plan.plan in
     let rows : plan.subs ≡ table_in items = c.in-Ok-make_plan.ensures.table ∙ ap (all_numbered 0) c.in-Ok-check.ensures.props in
-    (items, c.in-Ok.ensures.ok, c.in-Ok-check.ensures.accepted refl, λ built. let no : ⊥ = built_where items plan rows built (sym c.is_timed.ensures ∙ c.if-is_timed.true) in no)
-
-pub open-requires-clause-untimed : goal.open-requires-clause-untimed
-open-requires-clause-untimed c =
-    let items : List Item = items_of c.in-Ok.spec in
-    let plan : table.Table = c.in-Ok-make_plan.plan in
-    let rows : plan.subs ≡ table_in items = c.in-Ok-make_plan.ensures.table ∙ ap (all_numbered 0) c.in-Ok-check.ensures.props in
-    untimed_plan (expanded_props [] 0 items) plan (c.short_texts_have_few_terms.ensures c.args.text.now items c.requires.short c.in-Ok.ensures.ok) rows (sym c.is_timed.ensures ∙ c.if-is_timed.false)
+    plan_few (expanded_props [] 0 items) plan (c.short_texts_have_few_terms.ensures c.args.text.now items c.requires.short c.in-Ok.ensures.ok) rows
 
 pub returns-in-Ok-open-clause-ok : goal.returns-in-Ok-open-clause-ok
 returns-in-Ok-open-clause-ok c =
@@ -42,7 +35,6 @@ returns-in-Ok-open-clause-ok c =
       items = items;
       spelled = c.in-Ok.ensures.ok;
       clear = c.in-Ok-check.ensures.accepted refl;
-      built = built_when items plan rows (sym c.is_timed.ensures ∙ c.if-is_timed.false);
       stands = judge_stands c.args.limits items _ (subst (λ (p : table.Table). IsPlanOf items p) (sym c.in-Ok-open.ensures.plan) is)
           (record { bits = c.in-Ok-open.ensures.bits; nodes = c.in-Ok-open.ensures.room; cache = c.in-Ok-open.ensures.entries }) c.in-Ok-open.ensures.stands refl refl;
     }
@@ -50,4 +42,4 @@ returns-in-Ok-open-clause-ok c =
 pub returns-in-Ok-open-clause-ready : goal.returns-in-Ok-open-clause-ready
 returns-in-Ok-open-clause-ready c =
     let stands = c.in-Ok-open.ensures.stands in
-    record { live = stands.live; events = stands.events; time = c.in-Ok-open.ensures.time; fewer = omega arith }
+    record { live = stands.live; events = stands.events; fewer = omega arith }

@@ -1,21 +1,19 @@
--- The rows of formulas: their timed operators, and the terms of their atoms.
-use Rattle.std.proofs.Common.{◌≡◌, ℕ, ◌+◌, List, [], ◌∷◌, ◌++◌, Bool, true, false, refl, sym, ◌∙◌, subst}
+-- A row of a formula is a timed operator exactly where the formula has one.
+use Rattle.std.proofs.Common.{◌≡◌, ℕ, ◌+◌, List, [], ◌∷◌, ◌++◌, Bool, true, false, refl, ◌∙◌}
 use Rattle.std.specs.Prelude.{◌||◌}
-use Rattle.std.specs.List.{AllByRecursion, list_any}
+use Rattle.std.specs.List.{list_any}
 use Rattle.std.proofs.lemmas.List.Folds.{list_any-append}
 use Rattle.qtl_syntax.specs.declared.formula.Bound.{Bound}
 use Rattle.qtl_syntax.specs.declared.formula.Bound.TheVariants.{AtMost, MoreThan}
 use Rattle.qtl_syntax.specs.Tree.{Text}
 use Rattle.subformulas.specs.Numbering.{sub, since_kind, once_kind, always_kind, numbered, numbered_one, numbered_two, all_numbered}
-use Rattle.subformulas.specs.Table.{Table, HasFewTerms, is_timed}
+use Rattle.subformulas.specs.Table.{is_timed}
 use Rattle.subformulas.specs.declared.table.Kind.{Kind}
 use Rattle.subformulas.specs.declared.table.Kind.TheVariants as kind
 use Rattle.subformulas.specs.declared.table.Sub.{Sub}
 use Rattle.wellformed.specs.CoreTree.{CoreFormula, True, False, Atom, Not, And, Or, Implies, Iff, Prev, Since, TimedSince, Once, TimedOnce, Always, TimedAlways, Interval, Exists, Forall}
-use Rattle.wellformed.specs.Terms as formula
 use Rattle.wellformed.specs.Timed.{has_timed}
 use Rattle.wellformed.specs.Sound.{nodes}
-use Rattle.monitor_step.specs.Monitor.{IsUntimed}
 
 -- a row is a timed operator
 abbrev pub any_timed : List Sub → Bool
@@ -93,60 +91,3 @@ pub all_timed : (n : ℕ) (props : List (Text × CoreFormula)) → any_timed (al
 all_timed n [] = refl
 all_timed n (p ∷ props) =
     parts_timed (numbered n p.1) (all_numbered (n + nodes p.1) props) (has_timed p.1) _ (rows_timed p.1 n) (all_timed (n + nodes p.1) props)
-
--- the atoms of rows are those of the formula
-abbrev pub AreFew : List Sub → Type 0
-AreFew rows = AllByRecursion (λ s. HasFewTerms s.kind) rows
-
-parts_few : (xs ys : List Sub) → AreFew xs → AreFew ys → AreFew (xs ++ ys)
-parts_few [] ys p q = q
-parts_few (x ∷ xs) ys p q = (p.0, parts_few xs ys p.1 q)
-
-one_few : (k : Kind) (n : ℕ) (f : CoreFormula) → HasFewTerms k → AreFew (numbered n f) → AreFew (numbered_one k n f)
-one_few k n f own p = parts_few (numbered n f) (sub k (n + nodes f) 0 ∷ []) p (own, tt)
-
-two_few : (k : Kind) (n : ℕ) (f g : CoreFormula) → HasFewTerms k → AreFew (numbered n f) → AreFew (numbered (n + nodes f) g) → AreFew (numbered_two k n f g)
-two_few k n f g own p q =
-    parts_few (numbered n f) (numbered (n + nodes f) g ++ sub k (n + nodes f) (n + nodes f + nodes g) ∷ []) p
-    (parts_few (numbered (n + nodes f) g) (sub k (n + nodes f) (n + nodes f + nodes g) ∷ []) q (own, tt))
-
-few_since : (b : Bound) → HasFewTerms (since_kind b)
-few_since (AtMost m) = tt
-few_since (MoreThan m) = tt
-
-few_once : (b : Bound) → HasFewTerms (once_kind b)
-few_once (AtMost m) = tt
-few_once (MoreThan m) = tt
-
-few_always : (b : Bound) → HasFewTerms (always_kind b)
-few_always (AtMost m) = tt
-few_always (MoreThan m) = tt
-
-rows_few : (f : CoreFormula) (n : ℕ) → formula.HasFewTerms f → AreFew (numbered n f)
-rows_few True n h = (tt, tt)
-rows_few False n h = (tt, tt)
-rows_few (Atom a) n h = (h, tt)
-rows_few (Not f) n h = one_few kind.Not n f tt (rows_few f n h)
-rows_few (And f g) n h = two_few kind.And n f g tt (rows_few f n h.0) (rows_few g (n + nodes f) h.1)
-rows_few (Or f g) n h = two_few kind.Or n f g tt (rows_few f n h.0) (rows_few g (n + nodes f) h.1)
-rows_few (Implies f g) n h = two_few kind.Implies n f g tt (rows_few f n h.0) (rows_few g (n + nodes f) h.1)
-rows_few (Iff f g) n h = two_few kind.Iff n f g tt (rows_few f n h.0) (rows_few g (n + nodes f) h.1)
-rows_few (Prev f) n h = one_few kind.Prev n f tt (rows_few f n h)
-rows_few (Since f g) n h = two_few kind.Since n f g tt (rows_few f n h.0) (rows_few g (n + nodes f) h.1)
-rows_few (TimedSince b f g) n h = two_few (since_kind b) n f g (few_since b) (rows_few f n h.0) (rows_few g (n + nodes f) h.1)
-rows_few (Once f) n h = one_few kind.Once n f tt (rows_few f n h)
-rows_few (TimedOnce b f) n h = one_few (once_kind b) n f (few_once b) (rows_few f n h)
-rows_few (Always f) n h = one_few kind.Always n f tt (rows_few f n h)
-rows_few (TimedAlways b f) n h = one_few (always_kind b) n f (few_always b) (rows_few f n h)
-rows_few (Interval f g) n h = two_few kind.Interval n f g tt (rows_few f n h.0) (rows_few g (n + nodes f) h.1)
-rows_few (Exists v f) n h = one_few (kind.Exists v) n f tt (rows_few f n h)
-rows_few (Forall v f) n h = one_few (kind.Forall v) n f tt (rows_few f n h)
-
-pub all_few : (n : ℕ) (props : List (Text × CoreFormula)) → AllByRecursion (λ p. formula.HasFewTerms p.1) props → AreFew (all_numbered n props)
-all_few n [] h = tt
-all_few n (p ∷ props) h =
-    parts_few (numbered n p.1) (all_numbered (n + nodes p.1) props) (rows_few p.1 n h.0) (all_few (n + nodes p.1) props h.1)
-
--- the plan of such rows is one that the monitor takes
-pub untimed_plan : (props : List (Text × CoreFormula)) (plan : Table) → AllByRecursion (λ p. formula.HasFewTerms p.1) props → plan.subs ≡ all_numbered 0 props → any_timed plan.subs ≡ false → IsUntimed plan
-untimed_plan props plan few rows untimed = record { untimed = untimed; few_terms = subst AreFew (sym rows) (all_few 0 props few) }
