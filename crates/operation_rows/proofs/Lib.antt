@@ -5,3 +5,4 @@ pub mod Sizes
 pub mod Lines
 pub mod PastAges
 pub mod Negating
+pub mod Unseen
