@@ -1,6 +1,6 @@
 -- What an event does to the monitor, for the log that the monitor stands for.
 use Rattle.std.proofs.Common.{◌≡◌, ℕ, ◌+◌, ◌-◌, ◌<◌, ◌≤◌, ◌⊎◌, inl, inr, List, [], ◌∷◌, ◌++◌, length, length-append, refl, sym, ap, ◌∙◌, arith, true}
-use Rattle.std.specs.Prelude.{Option, Some, None, Result, Ok, Err, slice_get}
+use Rattle.std.specs.Prelude.{Option, None, Result, Ok, Err, slice_get}
 use Rattle.std.specs.List.{AllByRecursion}
 use Rattle.qtl_syntax.specs.Tree.{Text}
 use Rattle.qtl_truth.specs.Truth.{IsEvent, IsLog, time_at, time_of}

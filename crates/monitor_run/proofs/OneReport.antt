@@ -8,7 +8,6 @@ use Rattle.qtl_truth.specs.declared.event.Event.{Event}
 use Rattle.mon_base.specs.Told.{text_of}
 use Rattle.wellformed.specs.Faults.{first_fault}
 use Rattle.wellformed.specs.declared.fault.NameFault.{NameFault}
-use Rattle.subformulas.proofs.ByNumber.{get_last}
 use Rattle.log_reader.specs.Records as log_records
 use Rattle.log_reader.specs.Standing.{numbered}
 use Rattle.log_reader.specs.declared.fault.LogFault.{LogFault}

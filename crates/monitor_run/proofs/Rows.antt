@@ -1,5 +1,5 @@
 -- The verdicts of the monitor are those of the properties, and go on by one row for each event.
-use Rattle.std.proofs.Common.{◌≡◌, ℕ, zero, suc, ◌+◌, ◌<◌, ◌≤◌, ◌⊎◌, ◌↔◌, inl, inr, List, [], ◌∷◌, ◌++◌, map, length, length-append, refl, sym, ap, ◌∙◌, subst, append_assoc, append-nil, arith, Bool, true, false, IsTrue, get_or}
+use Rattle.std.proofs.Common.{◌≡◌, ℕ, zero, suc, ◌+◌, ◌<◌, ◌≤◌, ◌⊎◌, ◌↔◌, inl, inr, List, [], ◌∷◌, ◌++◌, map, length, length-append, refl, sym, ap, ◌∙◌, append_assoc, append-nil, arith, Bool, true, false, IsTrue, get_or}
 use Rattle.std.specs.List.{AllByRecursion}
 use Rattle.std.proofs.lemmas.Bool.{cases_lt}
 use Rattle.qtl_syntax.specs.Tree.{Text, Item, Pred, Prop}
@@ -17,7 +17,6 @@ use Rattle.subformulas.proofs.FromLists.{in_list, truth_read}
 use Rattle.node_tree.specs.Tree.{Zero, One}
 use Rattle.wellformed.specs.CoreTruth.{TrueCore}
 use Rattle.monitor_model.specs.State.{State, Stands, setting_of, now_of, is_one, verdict_at}
-use Rattle.monitor_model.specs.Stands.{AreNow}
 use Rattle.monitor_model.proofs.Telling.Verdict.{verdict}
 use Rattle.monitor_step.specs.Monitor.{variables_of}
 use Rattle.monitor_run.specs.Report.{event_lines, violation_lines}

@@ -8,7 +8,6 @@ use Rattle.std.proofs.lemmas.Bool.{cases_lt}
 use Rattle.mon_base.specs.Told.{AppendsFront}
 use Rattle.qtl_syntax.specs.Tree.{Text, Item}
 use Rattle.qtl_truth.specs.declared.event.Event.{Event}
-use Rattle.subformulas.specs.declared.table.Sub.{Sub}
 use Rattle.monitor_model.specs.Ends as event_end
 use Rattle.monitor_model.specs.Setting.{Setting}
 use Rattle.monitor_model.specs.State.{State, setting_of}

@@ -54,13 +54,6 @@ HasFaultCause files_rose out_rose (ReadFault which) = files_rose
 HasFaultCause files_rose out_rose WriteFault = out_rose
 HasFaultCause files_rose out_rose _ = ⊤
 
--- an end that comes without a fault of a file or the output
-abbrev pub IsNoFault : End → Type 0
-IsNoFault (OpenFault which) = ⊥
-IsNoFault (ReadFault which) = ⊥
-IsNoFault WriteFault = ⊥
-IsNoFault _ = ⊤
-
 -- an end that the bytes of the files decide: no fault, and no want of memory
 abbrev pub IsDecided : End → Type 0
 IsDecided AllTrue = ⊤

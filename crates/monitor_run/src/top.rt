@@ -51,7 +51,8 @@ fn run_to_end<F: Files, W: Sink, L: Ledger>(
 
 /// Checks the log against the properties of the specification, and writes the report to `out`.
 ///
-/// `words` are SPEC and LOG, the names of the two files. For each event of the log and each property that is false there a line
+/// `words` are SPEC and LOG, the names of the two files. Where a property has a bound on time, once its macros are expanded, the
+/// last field of each record is the event's time. For each event of the log and each property that is false there a line
 /// is written, and then the end line or the stop line. Lines are held back at most until the next read of the log and
 /// until the call answers. The status is that of the end, from 0 to 7; no listener is dropped, as there are none yet.
 ///

@@ -1,5 +1,5 @@
 -- What the rows of an event are made with, as the definitions speak of it.
-use Rattle.std.specs.Prelude.{◌≡◌, ℕ, ◌+◌, ◌*◌, ◌≤◌, List, [], length, Option, Some, None}
+use Rattle.std.specs.Prelude.{◌≡◌, ℕ, ◌+◌, ◌*◌, ◌≤◌, List, length, Option, Some, None}
 use Rattle.node_tree.specs.Tree.{Tree, Zero}
 use Rattle.subformulas.specs.Matched.{items_of}
 use Rattle.subformulas.specs.Table.{Table}

@@ -1,5 +1,5 @@
 -- What the parts of serving one variable do.
-use Rattle.std.specs.Prelude.{◌≡◌, ℕ, ◌+◌, ◌-◌, ◌^◌, ◌<◌, ◌≤◌, List, [], ◌∷◌, ◌++◌, Option, None, Some, unwrap_or, slice_index_or}
+use Rattle.std.specs.Prelude.{◌≡◌, ℕ, ◌+◌, ◌-◌, ◌^◌, ◌<◌, ◌≤◌, List, [], ◌∷◌, ◌++◌, Some, unwrap_or, slice_index_or}
 use Rattle.qtl_syntax.specs.Tree.{Text}
 use Rattle.subformulas.specs.declared.need_list.Need.{Need}
 use Rattle.value_codes.specs.Pairs.{Pairs, code_of, IsPaired, IsLeastFree, Adds}

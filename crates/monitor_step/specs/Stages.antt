@@ -1,5 +1,5 @@
 -- What the stages of a step leave before its rows, and the ends of the stages as ends of the step.
-use Rattle.std.specs.Prelude.{◌≡◌, ℕ, ◌*◌, ◌<◌, ◌≤◌, List, length, Result, Ok, Err, vec_capacity}
+use Rattle.std.specs.Prelude.{ℕ, ◌*◌, ◌<◌, ◌≤◌, List, length, Result, Ok, Err, vec_capacity}
 use Rattle.qtl_truth.specs.declared.event.Event.{Event}
 use Rattle.node_tree.specs.Tree.{Tree}
 use Rattle.value_codes.specs.Pairs.{Contents}

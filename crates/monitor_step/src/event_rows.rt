@@ -1,6 +1,6 @@
 //! The rows of all subformulas at an event.
 
-ghost use Rattle.std.specs.Prelude.{◌≡◌, ◌+◌, ◌-◌, ◌*◌, ◌<◌, ◌≤◌, ◌++◌, [], ◌∷◌, length, map, take, drop, slice_get, slice_index_or, Some, None, true, false, set, if◌then◌else◌};
+ghost use Rattle.std.specs.Prelude.{◌≡◌, ◌+◌, ◌-◌, ◌*◌, ◌<◌, ◌≤◌, ◌++◌, [], ◌∷◌, length, map, take, drop, slice_get, slice_index_or, Some, None, set, if◌then◌else◌};
 ghost use Rattle.std.specs.List.{All, sum_by};
 ghost use Rattle.node_table.specs.Table.{tree_of};
 ghost use Rattle.node_table.specs.Collects.{AllValid};

@@ -1,6 +1,6 @@
 //! The monitor over diagrams: an event is bound, its texts get codes, its rows are made, and what is remembered is put in place.
 
-ghost use Rattle.std.specs.Prelude.{◌≡◌, ◌≢◌, ℕ, ◌+◌, ◌-◌, ◌*◌, ◌<◌, ◌≤◌, ◌^◌, ◌++◌, ◌↔◌, List, [], ◌∷◌, length, map, take, drop, true, false, IfOk, IfSome, OnOk, IsErrOf, IsOk, IsTrue, Some, None, slice_get, is_ok};
+ghost use Rattle.std.specs.Prelude.{◌≡◌, ℕ, ◌+◌, ◌-◌, ◌*◌, ◌<◌, ◌≤◌, ◌^◌, ◌++◌, ◌↔◌, List, [], ◌∷◌, length, true, false, IfOk, IfSome, OnOk, IsErrOf, IsTrue, Some, slice_get, is_ok};
 ghost use Rattle.std.specs.Option.{option_map};
 ghost use Rattle.std.specs.List.{AllByRecursion};
 ghost use Rattle.qtl_syntax.specs.Tree.{Text as TheText};

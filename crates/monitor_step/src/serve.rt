@@ -1,6 +1,6 @@
 //! The codes of an event's texts: each variable is served, in order.
 
-ghost use Rattle.std.specs.Prelude.{◌≡◌, ◌≢◌, ℕ, ◌+◌, ◌*◌, ◌-◌, ◌^◌, ◌<◌, ◌≤◌, ◌++◌, [], None, Some, length, map, take, drop, vec_capacity, IfOk, IsOk, OnOk, MatchResult};
+ghost use Rattle.std.specs.Prelude.{◌≡◌, ◌≢◌, ℕ, ◌+◌, ◌*◌, ◌-◌, ◌^◌, ◌<◌, ◌≤◌, ◌++◌, [], None, length, map, take, drop, vec_capacity, IfOk, IsOk, OnOk, MatchResult};
 ghost use Rattle.std.specs.List.{All, AllByRecursion};
 ghost use Rattle.qtl_syntax.specs.Tree.{Text as TheText};
 ghost use Rattle.node_table.specs.Table.{tree_of, KeepsTrees};

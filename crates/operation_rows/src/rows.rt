@@ -5,7 +5,7 @@ ghost use Rattle.std.specs.Prelude.{◌≡◌, ◌+◌, ◌*◌, ◌≤◌, ◌<
 ghost use Rattle.std.specs.List.{All, Contains};
 ghost use Rattle.node_tree.specs.Levels.{LevelsBelow};
 ghost use Rattle.node_tree.specs.Tree.{Zero};
-ghost use Rattle.node_table.specs.Table.{tree_of, IsValid, IsShared};
+ghost use Rattle.node_table.specs.Table.{tree_of, IsValid};
 ghost use Rattle.node_table.specs.Collects.{AllValid};
 ghost use Rattle.bdd_ops.specs.declared.op.Op.TheVariants.{And, Or, AndNot};
 ghost use Rattle.bdd_ops.specs.Apply.{map_leaves};

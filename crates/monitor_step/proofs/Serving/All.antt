@@ -4,7 +4,7 @@ use Rattle.std.specs.Prelude.{nat_eq, slice_index_or, slice_get, if◌then◌els
 use Rattle.std.specs.List.{AllByRecursion}
 use Rattle.std.proofs.lemmas.Bool.{cases_lt}
 use Rattle.std.proofs.lemmas.Bool.Decides.{eqb_tells, nat_tests}
-use Rattle.std.proofs.lemmas.List.{get_or-map, get_or_append_left, map-set, length-set, length-take, take-append-drop, take_more_set}
+use Rattle.std.proofs.lemmas.List.{get_or-map, get_or_append_left, map-set, length-set, take-append-drop, take_more_set}
 use Rattle.std.proofs.Math.Seq.{get_or-append_seam}
 use Rattle.std.proofs.lemmas.Nat.{mul-le}
 use Rattle.std.proofs.lemmas.List.Concat.{flat_map-append}
@@ -16,11 +16,11 @@ use Rattle.node_table.specs.Unfold.{tree_at}
 use Rattle.node_table.specs.Table.{Table, tree_of}
 use Rattle.subformulas.specs.declared.need_list.Need.{Need}
 use Rattle.subformulas.specs.NeedList.{EntryArgsBelow, AreByVariable, entry_texts, texts_for}
-use Rattle.value_codes.specs.Pairs.{Contents, Pairs, code_of, IsBook}
-use Rattle.monitor_step.specs.Coded.{code_at, AreCodes, Served}
+use Rattle.value_codes.specs.Pairs.{Contents, code_of, IsBook}
+use Rattle.monitor_step.specs.Coded.{AreCodes}
 use Rattle.monitor_step.specs.declared.serve.ServeEnd.{ServeEnd}
 use Rattle.monitor_step.specs.declared.serve.ServeEnd.TheVariants as serve
-use Rattle.monitor_step.specs.Giving.{own_texts, AddsCodes, HaveCodes}
+use Rattle.monitor_step.specs.Giving.{own_texts, AddsCodes}
 use Rattle.monitor_step.specs.Serving.{AreServed, IsServed, IsEndAt, IsFull, IsServeEnd, pairs_at}
 use Rattle.monitor_step.proofs.Serving.Marked.{have_at, have_count, own_count}
 

@@ -1,11 +1,11 @@
 -- The texts of a book whose codes trees tell apart are a list.
-use Rattle.std.proofs.Common.{◌≡◌, ◌≢◌, ℕ, ◌↔◌, ◌⊎◌, inl, inr, ⊎_elim, refl, sym, ap, ◌∙◌, subst, List, [], ◌∷◌, Bool, true, false, Option, Some, None}
+use Rattle.std.proofs.Common.{◌≡◌, ◌≢◌, ℕ, ◌↔◌, ◌⊎◌, inl, inr, ⊎_elim, refl, sym, ap, ◌∙◌, List, [], ◌∷◌, Bool, true, false, Some, None}
 use Rattle.std.specs.Prelude.{if◌then◌else◌, bytes_eq}
 use Rattle.qtl_syntax.specs.Tree.{Text}
 use Rattle.subformulas.specs.Texts.{Has}
 use Rattle.node_tree.specs.Tree.{Tree}
 use Rattle.value_codes.specs.Pairs.{Pairs, code_of, IsPaired}
-use Rattle.value_codes.proofs.Lookups.{Tells, some_none, texts_tell}
+use Rattle.value_codes.proofs.Lookups.{Tells, texts_tell}
 use Rattle.code_reclaim.specs.Told.{told_apart}
 use Rattle.monitor_model.specs.Reading.{AreTold}
 

@@ -11,9 +11,8 @@ use Rattle.qtl_truth.specs.declared.event.Event.{Event}
 use Rattle.qtl_truth.specs.declared.numbered_atom.Atom.{Atom}
 use Rattle.bdd_ops.specs.Codes.{block_code_literals, code_list_literals, code_literals, HasLevels}
 use Rattle.bdd_ops.specs.declared.code_cubes.BlockCode.{BlockCode}
-use Rattle.bdd_ops.specs.declared.literals.Literal.{Literal}
 use Rattle.subformulas.specs.Facts.{Fact, fact_of}
-use Rattle.subformulas.specs.Matched.{items_of, AreMatched, AreUses, AreUsesBelow, IsMatched, IsUse}
+use Rattle.subformulas.specs.Matched.{items_of, AreMatched, AreUses, AreUsesBelow, IsUse}
 use Rattle.subformulas.specs.NeedList.{texts_for}
 use Rattle.subformulas.specs.Needs.{fits, given}
 use Rattle.subformulas.specs.declared.need_list.Need.{Need}
@@ -21,8 +20,7 @@ use Rattle.subformulas.specs.declared.need_list.Stretch.{Stretch}
 use Rattle.subformulas.specs.declared.need_list.Use.{Use}
 use Rattle.value_codes.specs.Pairs.{Pairs, code_of}
 use Rattle.monitor_model.specs.Rows.{Frame, block_literals, fact_literals, given_code}
-use Rattle.monitor_model.specs.Setting.{Setting}
-use Rattle.monitor_step.specs.Coded.{code_at, AreCoded, AreCodes, IsCoded, IsCoding, Served}
+use Rattle.monitor_step.specs.Coded.{code_at, AreCoded, AreCodes, IsCoding, Served}
 
 -- ---- parts of a list of codes
 

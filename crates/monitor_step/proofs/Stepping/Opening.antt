@@ -1,11 +1,9 @@
 -- A monitor before the first event stands for no event, and its diagrams are leaves.
-use Rattle.std.proofs.Common.{◌≡◌, ℕ, zero, suc, ◌+◌, ◌-◌, ◌*◌, ◌^◌, ◌<◌, ◌≤◌, refl, sym, ap, ◌∙◌, subst, arith, List, [], ◌∷◌, length, Bool, true, false, Option, Some, None, IsTrue}
+use Rattle.std.proofs.Common.{◌≡◌, ℕ, zero, suc, ◌+◌, ◌-◌, ◌^◌, ◌≤◌, refl, sym, ap, ◌∙◌, subst, arith, List, [], ◌∷◌, length, Bool, true, false, Option, Some, None, IsTrue}
 use Rattle.std.specs.Prelude.{slice_get, nat_le, not, if◌then◌else◌}
 use Rattle.std.specs.List.{AllByRecursion}
 use Rattle.qtl_syntax.specs.Tree.{Text}
-use Rattle.qtl_truth.specs.declared.event.Event.{Event}
 use Rattle.subformulas.specs.Memory.{is_temporal, IsTemporal}
-use Rattle.subformulas.specs.Pinned.{pinned}
 use Rattle.subformulas.specs.Table as plan_table
 use Rattle.subformulas.specs.declared.table.Kind.{Kind}
 use Rattle.subformulas.specs.declared.table.Kind.TheVariants as kind
@@ -13,13 +11,12 @@ use Rattle.subformulas.specs.declared.table.Sub.{Sub}
 use Rattle.subformulas.proofs.Unfold.{by_some}
 use Rattle.node_tree.specs.Tree.{Tree, Zero, One, tree_eq}
 use Rattle.bdd_ops.specs.Reading.{set_block}
-use Rattle.value_codes.specs.Pairs.{Contents, IsBook, Pairs, code_of, value_of}
-use Rattle.timed_bits.specs.Ages.{HasAges, HasAgesTo}
-use Rattle.code_reclaim.specs.Told.{differs}
+use Rattle.value_codes.specs.Pairs.{Contents, IsBook, Pairs, code_of}
+use Rattle.timed_bits.specs.Ages.{HasAgesTo}
 use Rattle.monitor_model.specs.Books.{Gives}
 use Rattle.monitor_model.specs.Laws.{AreFirst, first_memory}
 use Rattle.monitor_model.specs.Setting.{Setting, first_of, time_first, time_width}
-use Rattle.monitor_model.specs.Shape.{AreMemories, HasMemoryShape, ReadsAlike, oldest}
+use Rattle.monitor_model.specs.Shape.{HasMemoryShape, ReadsAlike, oldest}
 use Rattle.monitor_model.specs.Stands.{IsRemembered, StandsFor}
 use Rattle.monitor_model.specs.State.{State, IsLive, IsMonitor, Stands, kept, memory_of, pairs_in, setting_of}
 use Rattle.monitor_model.proofs.Standing.Opening.{open_stands}

@@ -20,7 +20,7 @@ use Rattle.code_reclaim.proofs.Searching.{same_tree_of}
 use Rattle.bdd_ops.specs.Shelf.{Shelf, handle_pairs, IsLarge}
 use Rattle.bdd_ops.specs.declared.code_cubes.BlockCode.{BlockCode}
 use Rattle.value_codes.specs.Pairs.{Contents, IsBook, Pairs, code_of}
-use Rattle.monitor_model.specs.Ends.{End, NodesFull, time_since}
+use Rattle.monitor_model.specs.Ends.{time_since}
 use Rattle.monitor_model.specs.Reading.{Answers, IsNext, Reads}
 use Rattle.monitor_model.specs.Rows.{Frame, Sources, nodes_full, now_at, nth, updates}
 use Rattle.monitor_model.specs.Shape.{HasOwnLevels}
@@ -36,7 +36,7 @@ use Rattle.monitor_step.specs.Coded.{AreCoded}
 use Rattle.monitor_step.specs.Frame.{setting_with, sources_of}
 use Rattle.monitor_step.specs.Handles.{HasRemembered, brought_forward}
 use Rattle.monitor_step.specs.Monitor.{HasCodesFor, HasShape, MatchEnd, step_bound, variables_of}
-use Rattle.monitor_step.specs.RowsMade.{AnswersRows, AreReadable, HasRows, memory_in}
+use Rattle.monitor_step.specs.RowsMade.{AreReadable, HasRows, memory_in}
 use Rattle.monitor_step.specs.Serving.{pairs_at}
 use Rattle.monitor_step.specs.Stages.{AnswersServing, rows_end, serve_end}
 use Rattle.monitor_step.specs.declared.event_rows.NodesFull as full_row
@@ -47,7 +47,7 @@ use Rattle.monitor_step.specs.declared.serve.ServeEnd.{ServeEnd}
 use Rattle.monitor_step.specs.declared.serve.ServeEnd.TheVariants as serve
 use Rattle.monitor_step.proofs.Rows.Kept.{has_remembered, memory_among}
 use Rattle.monitor_step.proofs.Stepping.Readable.{are_readable}
-use Rattle.monitor_step.proofs.Stepping.Reading.{are_next, is_next, listed, listed_made, next_books, no_more, reads_codes, reads_next, reads_rows, rowed, told_is, told_of, listed_full}
+use Rattle.monitor_step.proofs.Stepping.Reading.{are_next, is_next, listed, listed_made, next_books, no_more, reads_codes, reads_next, reads_rows, told_is, told_of, listed_full}
 
 -- the trees by a table with the same nodes are the same
 pub trees_kept : (old new : Table) (hs : List ℕ) → new.nodes ≡ old.nodes → map (tree_of new) hs ≡ map (tree_of old) hs

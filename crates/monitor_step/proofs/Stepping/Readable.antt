@@ -1,11 +1,11 @@
 -- The rows of an event can be made of its trees: the blocks of quantifiers are the deepest of their operands' trees, and timed
 -- operators find trees before the time block and ages within their bounds.
-use Rattle.std.proofs.Common.{◌≡◌, ℕ, zero, suc, ◌+◌, ◌-◌, ◌^◌, ◌<◌, ◌≤◌, refl, sym, ap, ◌∙◌, subst, arith, List, length, true, Some}
+use Rattle.std.proofs.Common.{◌≡◌, ℕ, ◌+◌, ◌-◌, ◌^◌, ◌<◌, ◌≤◌, refl, sym, ap, ◌∙◌, subst, arith, length, true, Some}
 use Rattle.std.specs.Prelude.{slice_get}
 use Rattle.std.proofs.lemmas.Option.{slice_get_within}
 use Rattle.subformulas.specs.Free.{IsDeepest, IsFreeAt}
 use Rattle.subformulas.specs.Memory.{is_temporal, IsTemporal}
-use Rattle.subformulas.specs.Table.{children, AreChildren, HasLawfulBound, IsChild, IsSound}
+use Rattle.subformulas.specs.Table.{children, AreChildren, HasLawfulBound, IsSound}
 use Rattle.subformulas.specs.TimeBits.{past_bound}
 use Rattle.subformulas.specs.Unfolded.{formula_at}
 use Rattle.subformulas.specs.declared.table.Kind.{Kind}

@@ -1,6 +1,6 @@
 -- What a step does by the monitor's own books and trees.
-use Rattle.std.proofs.Common.{◌≡◌, ℕ, zero, suc, ◌+◌, ◌-◌, ◌*◌, ◌^◌, ◌<◌, ◌≤◌, ◌⊎◌, inl, inr, refl, sym, ap, ◌∙◌, subst, arith, List, [], ◌∷◌, length, map, take, true, Option, Some, None}
-use Rattle.std.specs.Prelude.{Result, Ok, Err, slice_index_or}
+use Rattle.std.proofs.Common.{◌≡◌, ℕ, zero, suc, ◌+◌, ◌*◌, ◌^◌, ◌<◌, ◌≤◌, ◌⊎◌, inl, inr, refl, sym, ap, ◌∙◌, subst, arith, List, [], ◌∷◌, length, true, Option, Some, None}
+use Rattle.std.specs.Prelude.{Ok, Err}
 use Rattle.std.specs.List.{AllByRecursion}
 use Rattle.std.proofs.lemmas.Bool.{cases_lt}
 use Rattle.qtl_syntax.specs.Tree.{Text}
@@ -13,7 +13,7 @@ use Rattle.subformulas.specs.declared.table.Sub.{Sub}
 use Rattle.node_tree.specs.Tree.{Tree}
 use Rattle.value_codes.specs.Pairs.{Pairs, Contents, IsBook, IsPaired}
 use Rattle.monitor_model.specs.Books.{IsNextBook}
-use Rattle.monitor_model.specs.Ends.{End, CodesFull, NodesFull, codes_full, AreNext, sources}
+use Rattle.monitor_model.specs.Ends.{CodesFull, NodesFull, codes_full, AreNext}
 use Rattle.monitor_model.specs.Reading.{AreTold, IsNext, Reads, Rowed, sources_of}
 use Rattle.monitor_model.specs.Rows.{nodes_full, nth, updates, Sources}
 use Rattle.monitor_model.specs.State.{State, SameCodes, kept, memory_of, pairs_in, remembered, setting_of}
@@ -22,7 +22,7 @@ use Rattle.monitor_model.proofs.Ends.SameRows.{same_made, same_without_room}
 use Rattle.monitor_step.specs.Handles.{HasRemembered}
 use Rattle.monitor_step.specs.RowsMade.{memory_in}
 use Rattle.monitor_step.proofs.Rows.Kept.{memory_among}
-use Rattle.monitor_step.specs.Serving.{HasNext, IsFull, pairs_at}
+use Rattle.monitor_step.specs.Serving.{HasNext, pairs_at}
 use Rattle.monitor_step.specs.Stages.{AnswersServing, EachServed}
 use Rattle.monitor_step.specs.declared.serve.ServeEnd.TheVariants as serve
 use Rattle.monitor_step.proofs.Serving.ToldList.{told_list}

@@ -1,6 +1,3 @@
-use Rattle.std.proofs.Common.{◌≡◌, ◌≤◌, ℕ, sym, subst, arith}
-use Rattle.std.specs.List.{AllByRecursion}
-use Rattle.qtl_truth.specs.Truth.{IsText, IsEvent}
 use Rattle.monitor_run.specs.declared.judge.Judge.{Judge}
 use Rattle.monitor_run.proofs.Judges.{refused, taken}
 use Rattle.monitor_run.proofs.judge.judge_event.Goals as goal

@@ -101,7 +101,7 @@ records-preserved g c =
     let last : ℕ = c.records.judge.monitor.last_time in
     let now : ℕ = c.judge_event.new.judge.monitor.last_time in
     let on : (count : ℕ) → IsFed count c.records.reader last → IsFed count t now = λ count f.
-        subst (λ (n : ℕ). IsFed count t n) (sym j.time) (is_fed_event count c.records.reader t last c.in-Ok-Some.field-0 c.in-Ok-Some.event c.in-Ok-Some.field-0-is e.answer e.stands e.timed e.ended e.given f) in
+    subst (λ (n : ℕ). IsFed count t n) (sym j.time) (is_fed_event count c.records.reader t last c.in-Ok-Some.field-0 c.in-Ok-Some.event c.in-Ok-Some.field-0-is e.answer e.stands e.timed e.ended e.given f) in
     record {
       walked = λ limits items all left sent given ended walked.
           let w = i.walked limits items all left sent given ended walked in

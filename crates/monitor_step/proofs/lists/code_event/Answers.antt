@@ -1,6 +1,5 @@
-use Rattle.std.proofs.Common.{◌≡◌, ℕ, ◌≤◌, ◌∙◌, List, length, map, subst, sym, ap}
+use Rattle.std.proofs.Common.{ℕ, ◌∙◌, List, length, map, subst, sym, ap}
 use Rattle.subformulas.specs.NeedList.{texts_for}
-use Rattle.subformulas.specs.Needs.{need}
 use Rattle.subformulas.specs.declared.need_list.Need.{Need}
 use Rattle.subformulas.specs.declared.need_list.Use.{Use}
 use Rattle.subformulas.specs.Matched.{AreUsesBelow}

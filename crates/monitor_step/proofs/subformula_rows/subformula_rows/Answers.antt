@@ -1,6 +1,4 @@
-use Rattle.std.proofs.Common.{◌≡◌, refl, arith}
 use Rattle.subformulas.specs.declared.table.Kind.TheVariants as kind
-use Rattle.node_table.specs.Table.{tree_of}
 use Rattle.monitor_step.specs.Frame.{frame_of, setting_with}
 use Rattle.monitor_step.proofs.Rows.Kinds.{kind_ascends, only_temporal, temporal_child}
 use Rattle.monitor_step.proofs.subformula_rows.subformula_rows.Goals as goal

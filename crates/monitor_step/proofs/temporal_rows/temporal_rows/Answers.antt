@@ -1,4 +1,4 @@
-use Rattle.std.proofs.Common.{◌≡◌, refl, arith}
+use Rattle.std.proofs.Common.{◌≡◌}
 use Rattle.subformulas.specs.declared.table.Kind.TheVariants as kind
 use Rattle.node_table.specs.Table.{tree_of}
 use Rattle.monitor_step.specs.Frame.{frame_of, setting_with}

@@ -2,7 +2,6 @@ use Rattle.std.proofs.Common.{◌≡◌, ℕ, ◌-◌, ◌<◌, ◌∙◌, lengt
 use Rattle.std.specs.Prelude.{slice_index_or, slice_get, IfSome}
 use Rattle.std.proofs.lemmas.List.{get_or_read}
 use Rattle.subformulas.specs.Memory.{IsTemporal}
-use Rattle.subformulas.specs.declared.table.Sub.{Sub}
 use Rattle.node_tree.specs.Tree.{Tree}
 use Rattle.node_table.specs.Table.{tree_of, IsValid}
 use Rattle.monitor_model.specs.Shape.{HasMemoryShape, ReadsAlike, oldest}

@@ -3,7 +3,7 @@ use Rattle.std.specs.Prelude.{slice_index_or}
 use Rattle.std.proofs.lemmas.List.{get_or_read}
 use Rattle.node_tree.specs.Tree.{Tree}
 use Rattle.node_table.specs.Table.{tree_of, IsValid}
-use Rattle.monitor_model.specs.Shape.{AreResults, HasOwnLevels, ReadsAlike}
+use Rattle.monitor_model.specs.Shape.{HasOwnLevels, ReadsAlike}
 use Rattle.monitor_model.specs.State.{State, IsLive, IsMonitor, kept, now_of, pairs_in, setting_of}
 use Rattle.monitor_step.proofs.Rows.Kept.{now_tree}
 use Rattle.monitor_step.proofs.monitor.Monitor.now.Goals as goal

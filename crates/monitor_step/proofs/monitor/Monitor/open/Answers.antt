@@ -1,4 +1,4 @@
-use Rattle.std.proofs.Common.{◌≡◌, ◌∙◌, ℕ, ap, List, length, map, take, subst, refl, true, false}
+use Rattle.std.proofs.Common.{◌≡◌, ◌∙◌, ℕ, ap, List, length, take, subst, refl, true, false}
 use Rattle.std.proofs.Math.Seq.{take-length}
 use Rattle.node_table.specs.Table.{Table}
 use Rattle.wellformed.specs.declared.core_formula.Variable.{Variable}
