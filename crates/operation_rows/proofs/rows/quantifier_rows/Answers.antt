@@ -7,8 +7,8 @@ use Rattle.operation_rows.proofs.rows.quantifier_rows.Goals as goal
 -- and block_ok and block_full say the same of the rows of this crate. The operand stays a root all
 -- the while, so beside a row stands the row before it alone.
 -- What the calls of an edit of this body ask takes the place of these lines in the edit, so that it
--- is refused for what it makes alone: quantifiers_over_the_seen_texts_alone is such an edit, which
--- quantifies over less than the operand.
+-- is refused for what it ensures and not for what it calls: quantifiers_over_the_seen_texts_alone
+-- is such an edit, which quantifies over less than the operand.
 
 pub returns-in-Ok-clause-made : goal.returns-in-Ok-clause-made
 returns-in-Ok-clause-made g c = rw c.plain.ensures (block_ok c.args.all c.args.block.first c.args.block.bits c.args.h c.args.roots.now c.args.store.now.table c.requires.operand c.quantify_deepest.new.store.table
