@@ -151,7 +151,9 @@ pub fn event_rows<L: Ledger>(
         let done = 2 * remembered + k as usize;
         let children = children_of(handles, 2 * remembered, sub, next);
         let kind = &sub.kind;
-        match subformula_rows(store, plan, frame, kind, slot, children, handles, done, steps) {
+        match subformula_rows(
+            store, plan, frame, kind, slot, children, handles, done, steps,
+        ) {
             Ok(made) => {
                 put(handles, kind, remembered + next, done, made);
                 next = place_after(kind, next);

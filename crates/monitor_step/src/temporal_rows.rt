@@ -18,9 +18,8 @@ use bdd_ops::{Op, Store};
 use mon_base::Steps;
 use node_table::Handle;
 use operation_rows::{
-    RowFull, Updated, always_at_most_rows, always_more_than_rows, interval_rows,
-    once_at_most_rows, once_more_than_rows, operation_row, since_at_most_rows,
-    since_more_than_rows, since_rows,
+    RowFull, Updated, always_at_most_rows, always_more_than_rows, interval_rows, once_at_most_rows,
+    once_more_than_rows, operation_row, since_at_most_rows, since_more_than_rows, since_rows,
 };
 use std::sync::ledger::Ledger;
 use subformulas::{Kind, Plan};

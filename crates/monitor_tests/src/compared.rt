@@ -2,8 +2,8 @@
 
 ghost use Rattle.std.specs.Prelude.{◌≡◌, ◌<◌, ◌≤◌};
 
-use crate::slow_truth::{holds, truths};
 use crate::made::{core_of, judge, open};
+use crate::slow_truth::{holds, truths};
 use mon_base::Steps;
 use qtl_syntax::Text;
 use qtl_truth::Event;
