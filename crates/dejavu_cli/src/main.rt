@@ -3,24 +3,30 @@
 
 ghost use Rattle.std.specs.Prelude.{◌≡◌, ◌<◌};
 
-use mon_base::{HostFiles, OutSink, Steps};
-use monitor_run::run;
+use mon_base::{HostFiles, NoMemory, OutSink, Steps};
+use monitor_run::{End, run};
 use std::env;
+use std::io::ErrorKind;
 use std::marker::Brand;
 use std::process::ExitCode;
 use std::sync::ledger::{Blank, Ledger};
 
-/// The words after the program's name. Where they can't be had there are none, which is a wrong use.
-fn words_of(rt: HostRuntime) -> Vec<String> {
+/// The words after the program's name. Where one of them is no UTF-8 there are none, which is a wrong use.
+fn words_of(rt: HostRuntime) -> Result<Vec<String>, NoMemory> {
     let mut words = Vec::new(rt.alloc());
-    if let Ok(args) = env::args(&rt) {
-        for word in args.skip(1) {
-            if words.push(word).is_err() {
-                return Vec::new(rt.alloc());
+    match env::args(&rt) {
+        Ok(args) => {
+            for word in args.skip(1) {
+                words.push(word)?;
+            }
+        }
+        Err(error) => {
+            if error.kind() == ErrorKind::OutOfMemory {
+                return Err(NoMemory);
             }
         }
     }
-    words
+    Ok(words)
 }
 
 /// The status of a run over the host, which counts its steps in this ledger.
@@ -37,6 +43,8 @@ fn run_in<L: Ledger>(rt: HostRuntime, words: &[String], blank: Blank) -> u8
 }
 
 fn main(rt: HostRuntime) -> ExitCode {
-    let words = words_of(rt);
-    ExitCode::from(run_in::<Brand>(rt, words.as_slice(), Blank::new(1)))
+    match words_of(rt) {
+        Ok(words) => ExitCode::from(run_in::<Brand>(rt, words.as_slice(), Blank::new(1))),
+        Err(_) => ExitCode::from(End::NoMemory.status()),
+    }
 }

@@ -1,14 +1,6 @@
-pub mod Answer
-pub mod Cost
-pub mod Files
-pub mod Judging
-pub mod Last
-pub mod Naming
-pub mod Passing
-pub mod Reading
-pub mod Records
-pub mod Report
-pub mod Specification
+-- What the parts of a run promise one another; what is promised of the whole stands in `run_model`.
 pub mod Standing
-pub mod Stops
-pub mod Verdicts
+pub mod Judging
+pub mod Reading
+pub mod Opening
+pub mod Finishing

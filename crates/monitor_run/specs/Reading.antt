@@ -1,47 +1,160 @@
--- How the reading of a log ends, and a run up to its last line.
-use Rattle.std.specs.Prelude.{◌≡◌, ℕ, ◌≤◌, ◌⊎◌, List, [], length, Option, Some, IsSomeAnd}
+-- How far a log was read: the bytes that were taken of it, the judge, and the output, one beside
+-- the other; and how the reading gives up.
+use Rattle.std.specs.Prelude.{◌≡◌, ◌≢◌, ⊤, ℕ, ◌+◌, ◌≤◌, List, [], ◌++◌, length, Bool, true, false, Option, Some}
 use Rattle.std.specs.Io.KnownBytes.{Appends, Consumes}
 use Rattle.mon_base.specs.Told.{AppendsFront}
 use Rattle.qtl_syntax.specs.Tree.{Text, Item}
-use Rattle.monitor_run.specs.Answer.{IsBodyFor, IsFront, IsFrontOfLines, IsFrontOfLog, LogBody}
-use Rattle.monitor_run.specs.Passing.{Passes}
-use Rattle.monitor_run.specs.Records.{records}
-use Rattle.monitor_run.specs.Verdicts.{is_timed}
-use Rattle.monitor_run.specs.declared.end.End.{End}
-use Rattle.monitor_run.specs.declared.limits.Limits.{Limits}
-use Rattle.monitor_run.specs.declared.end.End.TheVariants.{OpenFault, ReadFault, WriteFault, NoMemory}
-use Rattle.monitor_run.specs.declared.end.Which.TheVariants.{Log}
+use Rattle.qtl_truth.specs.Truth.{time_at}
+use Rattle.qtl_truth.specs.declared.event.Event.{Event}
+use Rattle.log_reader.specs.Records.{Rest, cut}
+use Rattle.log_reader.specs.Standing.{Reading, Stands}
+use Rattle.report.specs.Lines.{report_lines}
+use Rattle.report.specs.Passing.{Passes}
+use Rattle.report.specs.Verdicts.{Verdict, false_count}
+use Rattle.run_model.specs.Limits.{ComesAt}
+use Rattle.run_model.specs.Stage.{handed_by}
+use Rattle.run_model.specs.Verdicts.{properties, names, is_timed, AreVerdicts}
+use Rattle.run_model.specs.Walk.{Form, Input, Close, Open, Ended, Taken, Takes, Comes, Walks, HasWalked, known}
+use Rattle.monitor_run.specs.Standing.{HasJudged}
+use Rattle.monitor_run.specs.declared.judge.Judge.{Judge}
+use Rattle.run_model.specs.declared.limits.Limits.{Limits}
+use Rattle.run_model.specs.declared.stop.Halt.{Halt}
+use Rattle.run_model.specs.declared.stop.Halt.TheVariants.{At, Lost}
+use Rattle.run_model.specs.declared.stop.LogStop.{LogStop}
+use Rattle.run_model.specs.declared.stop.LogStop.TheVariants.{Unopened, Unread}
+use Rattle.run_model.specs.declared.stop.Loss.TheVariants.{Cut, Starved}
 
--- what was written of a log, of which this is left, and what is held back
-abbrev pub LogReached : Limits → List Item → Text → (left sent0 sent1 : Option Text) → Text → End → ℕ → Type 0
-LogReached limits items all left sent0 sent1 held WriteFault events =
-    (front : Text) × IsFrontOfLines limits items all front × Appends sent0 sent1 front × (events ≤ length (records limits.log (is_timed items) all).events)
-LogReached limits items all left sent0 sent1 held NoMemory events =
-    (body : Text) × IsFrontOfLines limits items all body × Passes sent0 sent1 [] held body × (events ≤ length (records limits.log (is_timed items) all).events)
-LogReached limits items all left sent0 sent1 held end events =
-    (body : Text) × LogBody end limits items all (λ rest. left ≡ Some rest) events body × Passes sent0 sent1 [] held body
+-- The bytes
 
--- how a read ends that fails, or that comes not to pass as what was held back could not be written
-abbrev pub IsReadEnd : (left0 left1 sent0 sent1 : Option Text) → (held0 held1 : Text) → End → Type 0
-IsReadEnd left0 left1 sent0 sent1 held0 held1 (ReadFault Log) = Consumes left0 left1 [] × Appends sent0 sent1 held0 × (held1 ≡ [])
-IsReadEnd left0 left1 sent0 sent1 held0 held1 WriteFault = AppendsFront sent0 sent1 held0
-IsReadEnd left0 left1 sent0 sent1 held0 held1 _ = ⊥
+-- of the records of these bytes, which were fed to the reader and are read with times or without,
+-- these events were given
+pub record Fed (timed : Bool) (bytes : Text) (ended : Bool) (log : List Event) (r : Reading)
+    : Type 0 where
+  pub stands : Stands bytes r
+  pub times : r.timed ≡ timed
+  pub closed : r.ended ≡ ended
+  pub count : r.given ≡ length log
+  pub later : List Event
+  pub first : (cut bytes timed ended).events ≡ log ++ later
 
--- the same for a log that may not be there
-abbrev pub LogTold : Limits → List Item → Option Text → (Text → Type 0) → (sent0 sent1 : Option Text) → Text → End → ℕ → Type 0
-LogTold limits items log unread sent0 sent1 held (OpenFault Log) events = Passes sent0 sent1 [] held []
-LogTold limits items log unread sent0 sent1 held WriteFault events =
-    (front : Text) × IsSomeAnd log (λ all. IsFrontOfLines limits items all front) × Appends sent0 sent1 front
-LogTold limits items log unread sent0 sent1 held NoMemory events =
-    (body : Text) × ((body ≡ []) ⊎ IsSomeAnd log (λ all. IsFrontOfLines limits items all body)) × Passes sent0 sent1 [] held body
-LogTold limits items log unread sent0 sent1 held end events =
-    (body : Text) × IsSomeAnd log (λ all. LogBody end limits items all unread events body) × Passes sent0 sent1 [] held body
+-- so many bytes were fed to the reader, and this is the time of the event that it gave last; 0
+-- where it gave none
+pub record IsFed (count : ℕ) (r : Reading) (last : ℕ) : Type 0 where
+  pub timed : Bool
+  pub bytes : Text
+  pub ended : Bool
+  pub log : List Event
+  pub fed : Fed timed bytes ended log r
+  pub size : length bytes ≡ count
+  pub time : time_at log (length log) ≡ last
 
--- what was written, and is held back, where the files tell their texts
-abbrev pub Reaches : Limits → List (Text × Text) → List Text → (Text → Type 0) → Type 0 → Option Text → Option Text → Text → End → ℕ → Type 0
-Reaches limits texts words unread files_rose sent0 sent1 held WriteFault events =
-    (front : Text) × IsFront limits texts words unread files_rose front × Appends sent0 sent1 front
-Reaches limits texts words unread files_rose sent0 sent1 held NoMemory events =
-    (body : Text) × ((body ≡ []) ⊎ IsFrontOfLog limits texts words body) × Passes sent0 sent1 [] held body
-Reaches limits texts words unread files_rose sent0 sent1 held end events =
-    (body : Text) × IsBodyFor limits texts words end unread events body × Passes sent0 sent1 [] held body
+-- the same, and they are not more than these
+pub record IsFedWithin (most : ℕ) (r : Reading) (last : ℕ) : Type 0 where
+  pub count : ℕ
+  pub fed : IsFed count r last
+  pub few : count ≤ most
+
+-- how far a log was taken whose source gives more, or none
+abbrev pub close_of : (ended : Bool) → Close
+close_of true = Ended
+close_of false = Open
+
+abbrev pub taken_as : (given : Text) → (ended : Bool) → Taken
+taken_as given ended = record { given = given; close = close_of ended }
+
+-- these bytes were taken of a log, and these events of them were given
+pub record IsTaken (limit : ℕ) (timed : Bool) (all : Text) (left : Option Text) (given : Text)
+    (ended : Bool) (log : List Event) (r : Reading) : Type 0 where
+  pub rest : Text
+  pub remains : left ≡ Some rest
+  pub takes : Takes limit all rest (taken_as given ended)
+  pub fed : Fed timed given ended log r
+
+-- All three
+
+-- of the bytes that were taken some events were judged, and the violations of these were written or
+-- are held back
+pub record Reads (limits : Limits) (items : List Item) (all : Text) (left sent0 sent1 : Option Text)
+    (given : Text) (ended : Bool) (judge : Judge) (r : Reading) (held : Text) : Type 0 where
+  pub log : List Event
+  pub rows : List (List Verdict)
+  pub bytes : IsTaken limits.log (is_timed items) all left given ended log r
+  pub judged : HasJudged limits items log rows judge
+  pub lines : Passes sent0 sent1 [] held (report_lines 1 (names (properties items)) rows)
+
+-- the records of the bytes, read with times or without, are these events, and no fault
+abbrev pub AreAll : Bool → Text → Bool → List Event → Type 0
+AreAll timed given ended log = cut given timed ended ≡ record { events = log; end = Rest }
+
+-- all events of the bytes were judged
+pub record ReadsAll (limits : Limits) (items : List Item) (all : Text)
+    (left sent0 sent1 : Option Text) (given : Text) (ended : Bool) (judge : Judge) (r : Reading)
+    (held : Text) : Type 0 where
+  pub reads : Reads limits items all left sent0 sent1 given ended judge r held
+  pub done : AreAll (is_timed items) given ended reads.log
+
+-- Giving up
+
+abbrev pub form_in : List Item → Form
+form_in items = record { timed = is_timed items }
+
+-- how far the walk along the log came
+abbrev pub WalksTo : Comes → Input → List Event → Halt LogStop → Type 0
+WalksTo comes input judged (At stop) = Walks comes input judged stop
+WalksTo comes input judged (Lost loss) = HasWalked comes input judged
+
+-- how many events the monitor was handed, of those that are known
+abbrev pub IsHanded : Halt LogStop → (judged handed known : ℕ) → Type 0
+IsHanded (At stop) judged handed known = handed ≡ handed_by stop judged
+IsHanded (Lost loss) judged handed known = (handed ≤ judged + 1) × (handed ≤ known)
+
+-- at a stop the judge has counted the events and their violations
+abbrev pub IsCounted : Halt LogStop → Judge → (events violations : ℕ) → Type 0
+IsCounted (At stop) judge events violations =
+    (judge.events ≡ events) × (judge.violations ≡ violations)
+IsCounted (Lost loss) judge events violations = ⊤
+
+-- what was written of these lines, and what of them is held back
+abbrev pub LinesPass : {S : Type 0} → Halt S → (old new : Option Text) → (held lines : Text) →
+    Type 0
+LinesPass (At stop) old new held lines = Passes old new [] held lines
+LinesPass (Lost Cut) old new held lines = AppendsFront old new lines
+LinesPass (Lost Starved) old new held lines = Passes old new [] held lines
+
+-- How the reading of a log gave up: what was taken of it, which events were judged, how many the
+-- monitor was handed, and what was written of them or is held back
+pub record Halted (limits : Limits) (items : List Item) (all : Text)
+    (left sent0 sent1 : Option Text) (held : Text) (judge : Judge) (handed : ℕ)
+    (halt : Halt LogStop) : Type 0 where
+  pub rest : Text
+  pub remains : left ≡ Some rest
+  pub taken : Taken
+  pub takes : Takes limits.log all rest taken
+  pub judged : List Event
+  pub rows : List (List Verdict)
+  pub walks : WalksTo (ComesAt limits items) (known (form_in items) limits.log taken) judged halt
+  pub handed_is : IsHanded halt (length judged) handed
+      (length (known (form_in items) limits.log taken).events)
+  pub right : AreVerdicts judged (properties items) rows
+  pub counted : IsCounted halt judge (length judged) (false_count rows)
+  pub lines : LinesPass halt sent0 sent1 held (report_lines 1 (names (properties items)) rows)
+
+-- a write failed only where the output's count rose
+abbrev pub HasCutCause : {S : Type 0} → (out_rose : Type 0) → Halt S → Type 0
+HasCutCause out_rose (Lost Cut) = out_rose
+HasCutCause out_rose (Lost Starved) = ⊤
+HasCutCause out_rose (At stop) = ⊤
+
+-- and a read only where the source's count did; a log that is read was opened
+abbrev pub HasReadCause : (source_rose : Type 0) → Halt LogStop → Type 0
+HasReadCause source_rose (At stop) = (stop ≢ Unopened) × (stop ≡ Unread → source_rose)
+HasReadCause source_rose (Lost loss) = ⊤
+
+-- A read that came to no pass: it failed behind a flush, or what was held back could not be written
+abbrev pub IsUnread : (left0 left1 sent0 sent1 : Option Text) → (held0 held1 : Text) →
+    Halt LogStop → Type 0
+IsUnread left0 left1 sent0 sent1 held0 held1 (At stop) =
+    (stop ≡ Unread) × Consumes left0 left1 [] × Appends sent0 sent1 held0 × (held1 ≡ [])
+IsUnread left0 left1 sent0 sent1 held0 held1 (Lost Cut) =
+    (left1 ≡ left0) × AppendsFront sent0 sent1 held0
+IsUnread left0 left1 sent0 sent1 held0 held1 (Lost Starved) = ⊥

@@ -7,21 +7,19 @@ ghost use Rattle.mon_base.specs.Told.{AppendsFront};
 ghost use Rattle.monitor_step.specs.Monitor.{step_bound};
 ghost use Rattle.qtl_truth.specs.Truth.{IsEvent, IsText};
 ghost use Rattle.qtl_truth.specs.declared.event.Event.{Event as TheEvent};
-ghost use Rattle.monitor_run.specs.Answer.{HasFaultCause};
-ghost use Rattle.monitor_run.specs.Files.{IsReadingEnd};
-ghost use Rattle.monitor_run.specs.Judging.{IsReady, Judges, KeepsPlan, WritesEvent, end_of_step};
-ghost use Rattle.monitor_run.specs.Passing.{Passes};
-ghost use Rattle.monitor_run.specs.Report.{event_lines, verdict_text, violation_line};
-ghost use Rattle.monitor_run.specs.Standing.{StandsFor, names_in, row_of};
-ghost use Rattle.monitor_run.specs.Verdicts.{false_in};
+ghost use Rattle.report.specs.Lines.{event_lines, verdict_text};
+ghost use Rattle.report.specs.Passing.{Passes};
+ghost use Rattle.report.specs.Verdicts.{false_in};
+ghost use Rattle.monitor_run.specs.Judging.{Judges, WritesEvent, halt_of_step};
+ghost use Rattle.monitor_run.specs.Reading.{HasCutCause, HasReadCause};
+ghost use Rattle.monitor_run.specs.Standing.{IsReady, KeepsPlan, StandsFor, names_in, row_of, verdict_of};
 
-use crate::end::End;
-use crate::output::Output;
-use itoa::Buffer;
 use mon_base::{Failed, Sink, Steps};
 use monitor_step::{Monitor, StepEnd};
 use qtl_syntax::Text;
 use qtl_truth::Event;
+use report::{Output, put_violation};
+use run_model::{Halt, LogStop, Loss};
 use std::sync::ledger::Ledger;
 
 /// The monitor of the properties, and what was counted so far.
@@ -32,23 +30,6 @@ pub struct Judge {
     pub violations: u64,
 }
 
-/// Writes the line that the property of this name is false at this event.
-fn put_violation<W: Sink>(
-    output: &mut Output,
-    out: &mut W,
-    event: u64,
-    name: &Text,
-) -> Result<(), Failed>
-    ensures ok { OnOk result (Passes (W.written out.old) (W.written out.new) output.old output.new (violation_line event name.now)) }
-    ensures err { OnErr result (AppendsFront (W.written out.old) (W.written out.new) (output.old ++ violation_line event name.now)) }
-    ensures cause { HasCause (W.faults out.old) (W.faults out.new) result }
-{
-    let mut buffer = Buffer::new();
-    let number = buffer.format(event).as_bytes();
-    let parts = [b"violation ".as_slice(), number, b" ", name.bytes(), b"\n"];
-    output.put_parts(out, &parts)
-}
-
 /// Writes what the verdict on the property of this name writes at this event.
 fn put_verdict<W: Sink>(
     output: &mut Output,
@@ -57,8 +38,10 @@ fn put_verdict<W: Sink>(
     name: &Text,
     verdict: bool,
 ) -> Result<(), Failed>
-    ensures ok { OnOk result (Passes (W.written out.old) (W.written out.new) output.old output.new (verdict_text event name.now verdict)) }
-    ensures err { OnErr result (AppendsFront (W.written out.old) (W.written out.new) (output.old ++ verdict_text event name.now verdict)) }
+    ensures ok { OnOk result (Passes (W.written out.old) (W.written out.new) output.old output.new
+        (verdict_text event name.now (verdict_of verdict))) }
+    ensures err { OnErr result (AppendsFront (W.written out.old) (W.written out.new)
+        (output.old ++ verdict_text event name.now (verdict_of verdict))) }
     ensures cause { HasCause (W.faults out.old) (W.faults out.new) result }
 {
     if verdict {
@@ -76,10 +59,12 @@ fn put_verdicts<W: Sink>(
 ) -> Result<u64, Failed>
     requires live { monitor.now.live ≡ true }
     requires some { 1 ≤ monitor.now.events }
-    ensures ok { OnOk result (Passes (W.written out.old) (W.written out.new) output.old output.new (event_lines event (names_in monitor.now) (row_of monitor.now))) }
+    ensures ok { OnOk result (Passes (W.written out.old) (W.written out.new) output.old output.new
+        (event_lines event (names_in monitor.now) (row_of monitor.now))) }
     ensures count { IfOk result (λ count. count ≡ false_in (row_of monitor.now)) }
     ensures few { IfOk result (λ count. count ≤ 4096) }
-    ensures err { OnErr result (AppendsFront (W.written out.old) (W.written out.new) (output.old ++ event_lines event (names_in monitor.now) (row_of monitor.now))) }
+    ensures err { OnErr result (AppendsFront (W.written out.old) (W.written out.new)
+        (output.old ++ event_lines event (names_in monitor.now) (row_of monitor.now))) }
     ensures cause { HasCause (W.faults out.old) (W.faults out.new) result }
 {
     let plan = monitor.plan();
@@ -96,22 +81,22 @@ fn put_verdicts<W: Sink>(
     Ok(count)
 }
 
-/// The end of a run at this event, which can't be judged.
-fn stop(event: u64, end: StepEnd) -> End
-    ensures { result ≡ end_of_step event end }
+/// How a run gives up whose event of this number the monitor refuses.
+fn halt_of_step(event: u64, end: StepEnd) -> Halt<LogStop>
+    ensures { result ≡ halt_of_step event end }
 {
     match end {
-        StepEnd::CodesFull { variable, need } => End::CodesFull {
+        StepEnd::CodesFull { variable, need } => Halt::At(LogStop::CodesFull {
             event,
             variable,
             need,
-        },
-        StepEnd::NodesFull { subformula, row } => End::NodesFull {
+        }),
+        StepEnd::NodesFull { subformula, row } => Halt::At(LogStop::NodesFull {
             event,
             subformula,
             row,
-        },
-        StepEnd::NoMemory => End::NoMemory,
+        }),
+        StepEnd::NoMemory => Halt::Lost(Loss::Starved),
     }
 }
 
@@ -145,24 +130,28 @@ pub fn judge_event<W: Sink, L: Ledger>(
     output: &mut Output,
     out: &mut W,
     steps: &mut Steps<L>,
-) -> Result<(), End>
+) -> Result<(), Halt<LogStop>>
     requires ready { IsReady judge.old }
     requires few { judge.old.events < 2 ^ 48 }
     requires time { judge.old.monitor.last_time ≤ event.now.time }
     ensures plan { KeepsPlan judge.old judge.new }
     ensures ready { OnOk result (IsReady judge.new) }
     ensures time { OnOk result (judge.new.monitor.last_time ≡ event.now.time) }
-    ensures judged { (log : List TheEvent) → judge.old.events ≡ length log → StandsFor judge.old.monitor log → Judges judge.old judge.new log event.now result }
-    ensures written { WritesEvent judge.old judge.new (W.written out.old) (W.written out.new) output.old output.new result }
-    ensures cause { IfErr result (λ end. HasFaultCause ⊥ (Rose (W.faults out.old) (W.faults out.new)) end) }
-    ensures reading { IfErr result (λ end. IsReadingEnd end) }
+    ensures judged { (log : List TheEvent) → judge.old.events ≡ length log →
+        StandsFor judge.old.monitor log → Judges judge.old judge.new log event.now result }
+    ensures written { WritesEvent judge.old judge.new (W.written out.old) (W.written out.new)
+        output.old output.new result }
+    ensures cause { IfErr result
+        (λ halt. HasCutCause (Rose (W.faults out.old) (W.faults out.new)) halt) }
+    ensures no_read { IfErr result (λ halt. HasReadCause ⊥ halt) }
     ensures out_later { W.faults out.old ≤ W.faults out.new }
-    ensures cost { IsLarge judge.old.monitor.shelf → steps.new ≤ steps.old + step_bound judge.old.monitor }
+    ensures cost { IsLarge judge.old.monitor.shelf →
+        steps.new ≤ steps.old + step_bound judge.old.monitor }
 {
     is_event(event);
     match judge.monitor.step(event, steps) {
         Ok(()) => {}
-        Err(end) => return Err(stop(judge.events + 1, end)),
+        Err(end) => return Err(halt_of_step(judge.events + 1, end)),
     }
     judge.events += 1;
     match put_verdicts(output, out, judge.events, &judge.monitor) {
@@ -170,6 +159,6 @@ pub fn judge_event<W: Sink, L: Ledger>(
             judge.violations += count;
             Ok(())
         }
-        Err(_) => Err(End::WriteFault),
+        Err(_) => Err(Halt::Lost(Loss::Cut)),
     }
 }

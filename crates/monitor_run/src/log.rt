@@ -6,21 +6,17 @@ ghost use Rattle.mon_base.specs.Causes.{Rose};
 ghost use Rattle.monitor_step.specs.Monitor.{step_bound};
 ghost use Rattle.qtl_syntax.specs.Tree as tree;
 ghost use Rattle.log_reader.specs.Standing.{Stands, fresh_reading};
-ghost use Rattle.monitor_run.specs.Answer.{HasFaultCause, end_of_verdicts};
-ghost use Rattle.monitor_run.specs.Cost.{IsAsked};
-ghost use Rattle.monitor_run.specs.Files.{IsReadingEnd};
-ghost use Rattle.monitor_run.specs.Judging.{IsReady, KeepsPlan, Spends};
-ghost use Rattle.monitor_run.specs.Reading.{LogReached, IsReadEnd};
-ghost use Rattle.monitor_run.specs.Standing.{IsFed, IsFedWithin, StandsAt, WalkedAll, has_times};
-ghost use Rattle.monitor_run.specs.declared.limits.Limits as declared;
+ghost use Rattle.monitor_run.specs.Judging.{Spends};
+ghost use Rattle.monitor_run.specs.Reading.{Halted, HasCutCause, HasReadCause, IsFed, IsFedWithin, IsUnread, ReadsAll};
+ghost use Rattle.monitor_run.specs.Standing.{HasJudged, IsReady, KeepsPlan, has_times};
+ghost use Rattle.run_model.specs.declared.limits.Limits as declared;
 
-use crate::end::{End, Which};
 use crate::judge::Judge;
-use crate::limits::Limits;
-use crate::output::Output;
 use crate::piece::judge_fed;
 use log_reader::LogReader;
 use mon_base::{Sink, Source, Steps};
+use report::Output;
+use run_model::{Halt, Limits, LogStop, Loss};
 use std::sync::ledger::Ledger;
 
 /// How many bytes a read asks for: as many as there is room for, and at most so many.
@@ -45,29 +41,34 @@ fn fetch<S: Source, W: Sink>(
     output: &mut Output,
     out: &mut W,
     most: u64,
-) -> Result<usize, End>
+) -> Result<usize, Halt<LogStop>>
     requires room { 0 < length room.old }
     requires some { 0 < most }
     ensures within { IfOk result (λ n. n ≤ length room.new) }
     ensures most { IfOk result (λ n. n ≤ most) }
     ensures length { length room.new ≡ length room.old }
-    ensures taken { IfOk result (λ n. Consumes (S.left source.old) (S.left source.new) (take n room.new)) }
+    ensures taken { IfOk result
+        (λ n. Consumes (S.left source.old) (S.left source.new) (take n room.new)) }
     ensures ended { IfOk result (λ n. n ≡ 0 → IsAtEnd (S.left source.new)) }
-    ensures sent { IfOk result (λ _. Appends (W.written out.old) (W.written out.new) output.old × (output.new ≡ [])) }
-    ensures failed { IfErr result (λ end. IsReadEnd (S.left source.old) (S.left source.new) (W.written out.old) (W.written out.new) output.old output.new end) }
-    ensures cause { IfErr result (λ end. HasFaultCause (Rose (S.faults source.old) (S.faults source.new)) (Rose (W.faults out.old) (W.faults out.new)) end) }
-    ensures reading { IfErr result (λ end. IsReadingEnd end) }
+    ensures sent { IfOk result (λ _. Appends (W.written out.old) (W.written out.new) output.old ×
+        (output.new ≡ [])) }
+    ensures failed { IfErr result (λ halt. IsUnread (S.left source.old) (S.left source.new)
+        (W.written out.old) (W.written out.new) output.old output.new halt) }
+    ensures cause { IfErr result
+        (λ halt. HasCutCause (Rose (W.faults out.old) (W.faults out.new)) halt) }
+    ensures read { IfErr result
+        (λ halt. HasReadCause (Rose (S.faults source.old) (S.faults source.new)) halt) }
     ensures later { S.faults source.old ≤ S.faults source.new }
     ensures out_later { W.faults out.old ≤ W.faults out.new }
 {
     match output.flush(out) {
         Ok(()) => {}
-        Err(_) => return Err(End::WriteFault),
+        Err(_) => return Err(Halt::Lost(Loss::Cut)),
     }
     let count = asked(room.len(), most);
     match source.read(&mut room[..count]) {
         Ok(count) => Ok(count),
-        Err(_) => Err(End::ReadFault { which: Which::Log }),
+        Err(_) => Err(Halt::At(LogStop::Unread)),
     }
 }
 
@@ -81,61 +82,62 @@ fn take_turn<S: Source, W: Sink, L: Ledger>(
     out: &mut W,
     steps: &mut Steps<L>,
     most: u64,
-) -> Result<usize, End>
+) -> Result<usize, Halt<LogStop>>
     requires room { 0 < length room.old }
     requires some { 0 < most }
     requires on { reader.old.ended ≡ false }
-    requires fed { (count : ℕ) × IsFed count reader.old judge.old.monitor.last_time × (count + most ≤ 281474976710656) }
+    requires fed { (count : ℕ) × IsFed count reader.old judge.old.monitor.last_time ×
+        (count + most ≤ 281474976710656) }
     requires events { judge.old.events ≡ reader.old.given }
     requires ready { IsReady judge.old }
     ensures length { length room.new ≡ length room.old }
     ensures most { IfOk result (λ n. n ≤ most) }
     ensures on { OnOk result (reader.new.ended ≡ false) }
-    ensures ok { IfOk result (λ n. (limits : declared.Limits) (items : List tree.Item) (all : tree.Text) (sent : Option tree.Text) (given : tree.Text) →
-        length given + most ≤ limits.log →
-        WalkedAll limits items all (S.left source.old) sent (W.written out.old) given false judge.old reader.old output.old →
-        (more : tree.Text) × (length more ≡ n) × WalkedAll limits items all (S.left source.new) sent (W.written out.new) (given ++ more) false judge.new reader.new output.new) }
+    ensures ok { IfOk result (λ n. (limits : declared.Limits) (items : List tree.Item)
+        (all : tree.Text)
+        (sent : Option tree.Text) (given : tree.Text) → length given + most ≤ limits.log →
+        ReadsAll limits items all (S.left source.old) sent (W.written out.old) given false judge.old
+        reader.old output.old →
+        (more : tree.Text) × (length more ≡ n)
+        × ReadsAll limits items all (S.left source.new) sent (W.written out.new) (given ++ more)
+        false judge.new reader.new output.new) }
     ensures ended { IfOk result (λ n. n ≡ 0 → IsAtEnd (S.left source.new)) }
-    ensures err { IfErr result (λ end. (limits : declared.Limits) (items : List tree.Item) (all : tree.Text) (sent : Option tree.Text) (given : tree.Text) →
-        length given + most ≤ limits.log →
-        WalkedAll limits items all (S.left source.old) sent (W.written out.old) given false judge.old reader.old output.old →
-        LogReached limits items all (S.left source.new) sent (W.written out.new) output.new end judge.new.events) }
-    ensures fed { IfOk result (λ n. (count : ℕ) → IsFed count reader.old judge.old.monitor.last_time → IsFed (count + n) reader.new judge.new.monitor.last_time) }
+    ensures err { IfErr result (λ halt. (limits : declared.Limits) (items : List tree.Item)
+        (all : tree.Text)
+        (sent : Option tree.Text) (given : tree.Text) → length given + most ≤ limits.log →
+        ReadsAll limits items all (S.left source.old) sent (W.written out.old) given false judge.old
+        reader.old output.old →
+        Halted limits items all (S.left source.new) sent (W.written out.new) output.new judge.new
+        reader.new.given halt) }
+    ensures fed { IfOk result (λ n. (count : ℕ) →
+        IsFed count reader.old judge.old.monitor.last_time →
+        IsFed (count + n) reader.new judge.new.monitor.last_time) }
     ensures events { OnOk result (judge.new.events ≡ reader.new.given) }
     ensures ready { OnOk result (IsReady judge.new) }
     ensures plan { KeepsPlan judge.old judge.new }
-    ensures cause { IfErr result (λ end. HasFaultCause (Rose (S.faults source.old) (S.faults source.new)) (Rose (W.faults out.old) (W.faults out.new)) end) }
-    ensures reading { IfErr result (λ end. IsReadingEnd end) }
+    ensures cause { IfErr result
+        (λ halt. HasCutCause (Rose (W.faults out.old) (W.faults out.new)) halt) }
+    ensures read { IfErr result
+        (λ halt. HasReadCause (Rose (S.faults source.old) (S.faults source.new)) halt) }
     ensures later { S.faults source.old ≤ S.faults source.new }
     ensures out_later { W.faults out.old ≤ W.faults out.new }
-    ensures asked { IfErr result (λ end. (limits : declared.Limits) (items : List tree.Item) (all : tree.Text) (sent : Option tree.Text) (given : tree.Text) →
-        length given + most ≤ limits.log →
-        WalkedAll limits items all (S.left source.old) sent (W.written out.old) given false judge.old reader.old output.old → IsAsked limits items all end reader.new.given) }
-    ensures cost { IsLarge judge.old.monitor.shelf → Spends (step_bound judge.old.monitor) judge.old.events reader.new.given steps.old steps.new }
+    ensures cost { IsLarge judge.old.monitor.shelf →
+        Spends (step_bound judge.old.monitor) judge.old.events reader.new.given steps.old
+        steps.new }
+    ensures grown { reader.old.given ≤ reader.new.given }
+    ensures idle { reader.new.given ≡ reader.old.given → steps.new ≡ steps.old }
 {
     let count = match fetch(room, source, output, out, most) {
         Ok(count) => count,
-        Err(end) => return Err(end),
+        Err(halt) => return Err(halt),
     };
     match reader.feed(&room[..count]) {
         Ok(()) => {}
-        Err(_) => return Err(End::NoMemory),
+        Err(_) => return Err(Halt::Lost(Loss::Starved)),
     }
     match judge_fed(judge, reader, output, out, steps) {
         Ok(()) => Ok(count),
-        Err(end) => Err(end),
-    }
-}
-
-/// What the verdicts of a whole log say.
-fn verdict_of(violations: u64) -> End
-    ensures is { result ≡ end_of_verdicts violations }
-    ensures reading { IsReadingEnd result }
-{
-    if violations == 0 {
-        End::AllTrue
-    } else {
-        End::Violated { count: violations }
+        Err(halt) => Err(halt),
     }
 }
 
@@ -146,26 +148,31 @@ fn end_log<W: Sink, L: Ledger>(
     output: &mut Output,
     out: &mut W,
     steps: &mut Steps<L>,
-) -> End
+) -> Halt<LogStop>
     requires on { reader.old.ended ≡ false }
     requires fed { IsFedWithin 281474976710656 reader.old judge.old.monitor.last_time }
     requires events { judge.old.events ≡ reader.old.given }
     requires ready { IsReady judge.old }
-    ensures reached { (limits : declared.Limits) (items : List tree.Item) (all : tree.Text) (left : Option tree.Text) (sent : Option tree.Text) (given : tree.Text) →
-        WalkedAll limits items all left sent (W.written out.old) given false judge.old reader.old output.old → IsAtEnd left →
-        LogReached limits items all left sent (W.written out.new) output.new result judge.new.events }
-    ensures asked { (limits : declared.Limits) (items : List tree.Item) (all : tree.Text) (left : Option tree.Text) (sent : Option tree.Text) (given : tree.Text) →
-        WalkedAll limits items all left sent (W.written out.old) given false judge.old reader.old output.old → IsAtEnd left → IsAsked limits items all result reader.new.given }
+    ensures halted { (limits : declared.Limits) (items : List tree.Item) (all : tree.Text)
+        (left : Option tree.Text) (sent : Option tree.Text) (given : tree.Text) →
+        ReadsAll limits items all left sent (W.written out.old) given false judge.old reader.old
+        output.old → IsAtEnd left →
+        Halted limits items all left sent (W.written out.new) output.new judge.new reader.new.given
+        result }
     ensures plan { KeepsPlan judge.old judge.new }
-    ensures cause { HasFaultCause ⊥ (Rose (W.faults out.old) (W.faults out.new)) result }
-    ensures reading { IsReadingEnd result }
+    ensures cause { HasCutCause (Rose (W.faults out.old) (W.faults out.new)) result }
+    ensures no_read { HasReadCause ⊥ result }
     ensures out_later { W.faults out.old ≤ W.faults out.new }
-    ensures cost { IsLarge judge.old.monitor.shelf → Spends (step_bound judge.old.monitor) judge.old.events reader.new.given steps.old steps.new }
+    ensures cost { IsLarge judge.old.monitor.shelf →
+        Spends (step_bound judge.old.monitor) judge.old.events reader.new.given steps.old
+        steps.new }
+    ensures grown { reader.old.given ≤ reader.new.given }
+    ensures idle { reader.new.given ≡ reader.old.given → steps.new ≡ steps.old }
 {
     reader.end();
     match judge_fed(judge, reader, output, out, steps) {
-        Ok(()) => verdict_of(judge.violations),
-        Err(end) => end,
+        Ok(()) => Halt::At(LogStop::Whole),
+        Err(halt) => halt,
     }
 }
 
@@ -179,28 +186,34 @@ fn past_limit<S: Source, W: Sink, L: Ledger>(
     out: &mut W,
     steps: &mut Steps<L>,
     limits: Limits,
-) -> End
+) -> Halt<LogStop>
     requires room { 0 < length room.old }
     requires on { reader.old.ended ≡ false }
     requires fed { IsFedWithin 281474976710656 reader.old judge.old.monitor.last_time }
     requires events { judge.old.events ≡ reader.old.given }
     requires ready { IsReady judge.old }
-    ensures reached { (items : List tree.Item) (all : tree.Text) (sent : Option tree.Text) (given : tree.Text) →
-        WalkedAll limits items all (S.left source.old) sent (W.written out.old) given false judge.old reader.old output.old → length given ≡ limits.log →
-        LogReached limits items all (S.left source.new) sent (W.written out.new) output.new result judge.new.events }
-    ensures asked { (items : List tree.Item) (all : tree.Text) (sent : Option tree.Text) (given : tree.Text) →
-        WalkedAll limits items all (S.left source.old) sent (W.written out.old) given false judge.old reader.old output.old → IsAsked limits items all result reader.new.given }
+    ensures halted { (items : List tree.Item) (all : tree.Text) (sent : Option tree.Text)
+        (given : tree.Text) →
+        ReadsAll limits items all (S.left source.old) sent (W.written out.old) given false judge.old
+        reader.old output.old →
+        length given ≡ limits.log →
+        Halted limits items all (S.left source.new) sent (W.written out.new) output.new judge.new
+        reader.new.given result }
     ensures plan { KeepsPlan judge.old judge.new }
-    ensures cause { HasFaultCause (Rose (S.faults source.old) (S.faults source.new)) (Rose (W.faults out.old) (W.faults out.new)) result }
-    ensures reading { IsReadingEnd result }
+    ensures cause { HasCutCause (Rose (W.faults out.old) (W.faults out.new)) result }
+    ensures read { HasReadCause (Rose (S.faults source.old) (S.faults source.new)) result }
     ensures later { S.faults source.old ≤ S.faults source.new }
     ensures out_later { W.faults out.old ≤ W.faults out.new }
-    ensures cost { IsLarge judge.old.monitor.shelf → Spends (step_bound judge.old.monitor) judge.old.events reader.new.given steps.old steps.new }
+    ensures cost { IsLarge judge.old.monitor.shelf →
+        Spends (step_bound judge.old.monitor) judge.old.events reader.new.given steps.old
+        steps.new }
+    ensures grown { reader.old.given ≤ reader.new.given }
+    ensures idle { reader.new.given ≡ reader.old.given → steps.new ≡ steps.old }
 {
     match fetch(room, source, output, out, 1) {
         Ok(0) => end_log(judge, reader, output, out, steps),
-        Ok(_) => End::LogTooLong { limit: limits.log },
-        Err(end) => end,
+        Ok(_) => Halt::At(LogStop::Long { limit: limits.log }),
+        Err(halt) => halt,
     }
 }
 
@@ -215,7 +228,7 @@ pub fn read_log<S: Source, W: Sink, L: Ledger>(
     out: &mut W,
     steps: &mut Steps<L>,
     limits: Limits,
-) -> End
+) -> Halt<LogStop>
     requires fresh { reader.old ≡ fresh_reading (has_times judge.old.monitor.plan) }
     requires stands { Stands [] reader.old }
     requires room { 0 < length room.old }
@@ -224,15 +237,20 @@ pub fn read_log<S: Source, W: Sink, L: Ledger>(
     requires ready { IsReady judge.old }
     requires nothing { output.old ≡ [] }
     requires small { limits.log ≤ 281474976710656 }
-    ensures reached { (items : List tree.Item) (all : tree.Text) → StandsAt limits items [] [] judge.old → S.left source.old ≡ Some all →
-        LogReached limits items all (S.left source.new) (W.written out.old) (W.written out.new) output.new result judge.new.events }
-    ensures asked { (items : List tree.Item) (all : tree.Text) → StandsAt limits items [] [] judge.old → S.left source.old ≡ Some all → IsAsked limits items all result reader.new.given }
+    ensures halted { (items : List tree.Item) (all : tree.Text) →
+        HasJudged limits items [] [] judge.old →
+        S.left source.old ≡ Some all →
+        Halted limits items all (S.left source.new) (W.written out.old) (W.written out.new)
+        output.new judge.new reader.new.given result }
     ensures plan { KeepsPlan judge.old judge.new }
-    ensures cause { HasFaultCause (Rose (S.faults source.old) (S.faults source.new)) (Rose (W.faults out.old) (W.faults out.new)) result }
-    ensures reading { IsReadingEnd result }
+    ensures cause { HasCutCause (Rose (W.faults out.old) (W.faults out.new)) result }
+    ensures read { HasReadCause (Rose (S.faults source.old) (S.faults source.new)) result }
     ensures later { S.faults source.old ≤ S.faults source.new }
     ensures out_later { W.faults out.old ≤ W.faults out.new }
-    ensures cost { IsLarge judge.old.monitor.shelf → Spends (step_bound judge.old.monitor) judge.old.events reader.new.given steps.old steps.new }
+    ensures cost { IsLarge judge.old.monitor.shelf →
+        Spends (step_bound judge.old.monitor) judge.old.events reader.new.given steps.old
+        steps.new }
+    ensures idle { reader.new.given ≡ 0 → steps.new ≡ steps.old }
 {
     let mut taken: u64 = 0;
     'pieces: while taken < limits.log {
@@ -240,7 +258,7 @@ pub fn read_log<S: Source, W: Sink, L: Ledger>(
         match take_turn(judge, reader, room, source, output, out, steps, most) {
             Ok(0) => return end_log(judge, reader, output, out, steps),
             Ok(count) => taken += count as u64,
-            Err(end) => return end,
+            Err(halt) => return halt,
         }
     }
     past_limit(judge, reader, room, source, output, out, steps, limits)

@@ -1,22 +1,20 @@
 //! The judge of a specification file.
-ghost use Rattle.std.specs.Prelude.{◌≡◌, ◌+◌, ◌^◌, ◌<◌, ◌≤◌, ℕ, Bool, List, [], ◌∷◌, length, vec_len, IfOk, IfErr, IfSome, IsErrOf};
+ghost use Rattle.std.specs.Prelude.{◌≡◌, ◌+◌, ◌^◌, ◌<◌, ◌≤◌, ℕ, List, length, vec_len, IfOk, IfErr, IfSome, IsErrOf};
 ghost use Rattle.std.specs.Io.KnownBytes.{Consumes, IsAtEnd};
 ghost use Rattle.mon_base.specs.Causes.{Rose};
-ghost use Rattle.monitor_run.specs.Files.{Gained, HurtsOne, OpensOne, StayTold};
-ghost use Rattle.monitor_run.specs.Judging.{IsReady};
-ghost use Rattle.monitor_run.specs.Specification.{SpecIs, SpecRead, SpecRefused, IsSpelled, IsUnspelled};
-ghost use Rattle.monitor_run.specs.Stops.{AreLawful};
+ghost use Rattle.run_model.specs.Limits.{AreLawful};
+ghost use Rattle.run_model.specs.Uses.{Use};
+ghost use Rattle.monitor_run.specs.Opening.{AreTold, AsksSpec, HasSpecCause, IsSpelled, IsUnspelled, SpecIs, SpecRead, SpecRefused, StopsReading, halt_of_fault, halt_of_names};
+ghost use Rattle.monitor_run.specs.Standing.{IsReady};
 
-use crate::MAX_SPEC;
-use crate::end::{End, Which};
 use crate::judge::Judge;
-use crate::limits::Limits;
 use mon_base::{Files, NoMemory, OpenEnd, Source};
 use monitor_step::{Monitor, Sizes};
-use qtl_syntax::parse;
+use qtl_syntax::{SpecFault, parse};
+use run_model::{Halt, Limits, Loss, MAX_SPEC, SpecStop};
 use std::alloc::Global;
 use subformulas::make_plan;
-use wellformed::{check, short_texts_have_few_nodes, short_texts_have_few_terms};
+use wellformed::{NameFault, check, short_texts_have_few_nodes, short_texts_have_few_terms};
 
 /// A read asks for so many bytes.
 const PIECE: usize = 65_536;
@@ -47,10 +45,14 @@ fn read_text<S: Source>(
     requires small { limit < 2 ^ 62 }
     requires some { 0 < length room.old }
     requires few { length room.old ≤ 65536 }
-    ensures ok { IfOk result (λ text. Consumes (S.left source.old) (S.left source.new) text.items × IsAtEnd (S.left source.new) × (length text.items ≤ limit)) }
-    ensures long { IsErrOf result TextEnd.TooLong → (given : List ℕ) × Consumes (S.left source.old) (S.left source.new) given × (limit < length given) }
+    ensures ok { IfOk result (λ text. Consumes (S.left source.old) (S.left source.new) text.items ×
+        IsAtEnd (S.left source.new) × (length text.items ≤ limit)) }
+    ensures long { IsErrOf result TextEnd.TooLong → (given : List ℕ) ×
+        Consumes (S.left source.old) (S.left source.new) given × (limit < length given) }
+    ensures taken { (given : List ℕ) × Consumes (S.left source.old) (S.left source.new) given }
     ensures later { S.faults source.old ≤ S.faults source.new }
-    ensures failed { IsErrOf result TextEnd.Failed → Rose (S.faults source.old) (S.faults source.new) }
+    ensures failed { IsErrOf result TextEnd.Failed →
+        Rose (S.faults source.old) (S.faults source.new) }
 {
     let mut text = Vec::new(alloc);
     'reads: while text.len() <= limit {
@@ -67,22 +69,25 @@ fn read_text<S: Source>(
 }
 
 /// The text of the specification of this name.
-fn read_spec<F: Files>(alloc: Global, name: &str, files: &mut F) -> Result<Vec<u8>, End>
-    ensures ok { IfOk result (λ text. IfSome (F.texts files.old) (λ texts. SpecIs texts name.now text.items)) }
+fn read_spec<F: Files>(alloc: Global, name: &str, files: &mut F) -> Result<Vec<u8>, Halt<SpecStop>>
+    ensures ok { IfOk result (λ text. IfSome (F.texts files.old)
+        (λ texts. SpecIs texts name.now text.items)) }
     ensures short { IfOk result (λ text. length text.items ≤ 1048576) }
-    ensures err { IfErr result (λ end. SpecRefused (F.texts files.old) name.now (Rose (F.faults files.old) (F.faults files.new)) end) }
-    ensures opened { IfOk result (λ _. Gained (F.opened files.old) (F.opened files.new) (name.now ∷ [])) }
-    ensures asked { IfErr result (λ end. OpensOne name.now end (F.opened files.old) (F.opened files.new)) }
-    ensures unread { IfOk result (λ _. IfSome (F.texts files.old) (λ _. StayTold (F.unread files.old) (F.unread files.new))) }
-    ensures closed { IfOk result (λ _. (hurt : Bool) × Gained (F.hurt files.old) (F.hurt files.new) (hurt ∷ [])) }
-    ensures hurt { IfErr result (λ end. HurtsOne end (F.hurt files.old) (F.hurt files.new)) }
+    ensures stops { IfErr result
+        (λ halt. IfSome (F.texts files.old) (λ texts. StopsReading texts name.now halt)) }
+    // Which files were asked for, and what the files tell of that.
+    ensures uses { (uses : List Use) × AsksSpec name.now result uses
+        × AreTold (F.texts files.old) uses (F.opened files.old) (F.opened files.new)
+        (F.hurt files.old) (F.hurt files.new) (F.unread files.old) (F.unread files.new) }
+    ensures cause { IfErr result
+        (λ halt. HasSpecCause (Rose (F.faults files.old) (F.faults files.new)) halt) }
     ensures texts { F.texts files.new ≡ F.texts files.old }
     ensures lent { F.lent files.new ≡ F.lent files.old }
     ensures later { F.faults files.old ≤ F.faults files.new }
 {
     let mut room = match read_room(alloc) {
         Ok(room) => room,
-        Err(_) => return Err(End::NoMemory),
+        Err(_) => return Err(Halt::Lost(Loss::Starved)),
     };
     match files.open(name) {
         Ok(mut source) => {
@@ -90,39 +95,59 @@ fn read_spec<F: Files>(alloc: Global, name: &str, files: &mut F) -> Result<Vec<u
             files.close(source);
             match text {
                 Ok(text) => Ok(text),
-                Err(TextEnd::TooLong) => Err(End::SpecTooLong),
-                Err(TextEnd::Failed) => Err(End::ReadFault { which: Which::Spec }),
-                Err(TextEnd::NoMemory) => Err(End::NoMemory),
+                Err(TextEnd::TooLong) => Err(Halt::At(SpecStop::TooLong)),
+                Err(TextEnd::Failed) => Err(Halt::At(SpecStop::Unread)),
+                Err(TextEnd::NoMemory) => Err(Halt::Lost(Loss::Starved)),
             }
         }
-        Err(OpenEnd::Failed) => Err(End::OpenFault { which: Which::Spec }),
-        Err(OpenEnd::NoMemory) => Err(End::NoMemory),
+        Err(OpenEnd::Failed) => Err(Halt::At(SpecStop::Unopened)),
+        Err(OpenEnd::NoMemory) => Err(Halt::Lost(Loss::Starved)),
+    }
+}
+
+/// How a run gives up whose specification has this fault.
+fn halt_of_fault(fault: SpecFault) -> Halt<SpecStop>
+    ensures { result ≡ halt_of_fault fault }
+{
+    match fault {
+        SpecFault::NoMemory => Halt::Lost(Loss::Starved),
+        _ => Halt::At(SpecStop::Fault(fault)),
+    }
+}
+
+/// How a run gives up whose specification's names have this fault.
+fn halt_of_names(fault: NameFault) -> Halt<SpecStop>
+    ensures { result ≡ halt_of_names fault }
+{
+    match fault {
+        NameFault::NoMemory => Halt::Lost(Loss::Starved),
+        _ => Halt::At(SpecStop::Names(fault)),
     }
 }
 
 /// The judge of the properties that the text spells, which are to be accepted.
-pub fn judge_in(alloc: Global, text: &[u8], limits: Limits) -> Result<Judge, End>
+fn judge_in(alloc: Global, text: &[u8], limits: Limits) -> Result<Judge, Halt<SpecStop>>
     requires lawful { AreLawful limits }
     requires short { length text.now ≤ 1048576 }
     ensures ok { IfOk result (λ judge. IsSpelled limits text.now judge) }
     ensures fresh { IfOk result (λ judge. judge.events ≡ 0) }
     ensures time { IfOk result (λ judge. judge.monitor.last_time ≡ 0) }
     ensures ready { IfOk result IsReady }
-    ensures err { IfErr result (λ end. IsUnspelled text.now end) }
+    ensures err { IfErr result (λ halt. IsUnspelled text.now halt) }
 {
     let spec = match parse(alloc, text) {
         Ok(spec) => spec,
-        Err(fault) => return Err(fault.into()),
+        Err(fault) => return Err(halt_of_fault(fault)),
     };
     // A law, for the conditions of `check`.
     short_texts_have_few_nodes();
     let core = match check(alloc, spec) {
         Ok(core) => core,
-        Err(fault) => return Err(fault.into()),
+        Err(fault) => return Err(halt_of_names(fault)),
     };
     let plan = match make_plan(alloc, core) {
         Ok(plan) => plan,
-        Err(_) => return Err(End::NoMemory),
+        Err(_) => return Err(Halt::Lost(Loss::Starved)),
     };
     // A law, for a condition of `Monitor::open`.
     short_texts_have_few_terms();
@@ -139,7 +164,7 @@ pub fn judge_in(alloc: Global, text: &[u8], limits: Limits) -> Result<Judge, End
             events: 0,
             violations: 0,
         }),
-        Err(_) => Err(End::NoMemory),
+        Err(_) => Err(Halt::Lost(Loss::Starved)),
     }
 }
 
@@ -149,25 +174,26 @@ pub fn read_specification<F: Files>(
     name: &str,
     files: &mut F,
     limits: Limits,
-) -> Result<Judge, End>
+) -> Result<Judge, Halt<SpecStop>>
     requires lawful { AreLawful limits }
     ensures ok { IfOk result (λ judge. SpecRead limits (F.texts files.old) name.now judge) }
     ensures fresh { IfOk result (λ judge. judge.events ≡ 0) }
     ensures time { IfOk result (λ judge. judge.monitor.last_time ≡ 0) }
     ensures ready { IfOk result IsReady }
-    ensures err { IfErr result (λ end. SpecRefused (F.texts files.old) name.now (Rose (F.faults files.old) (F.faults files.new)) end) }
-    ensures opened { IfOk result (λ _. Gained (F.opened files.old) (F.opened files.new) (name.now ∷ [])) }
-    ensures asked { IfErr result (λ end. OpensOne name.now end (F.opened files.old) (F.opened files.new)) }
-    ensures unread { IfOk result (λ _. IfSome (F.texts files.old) (λ _. StayTold (F.unread files.old) (F.unread files.new))) }
-    ensures closed { IfOk result (λ _. (hurt : Bool) × Gained (F.hurt files.old) (F.hurt files.new) (hurt ∷ [])) }
-    ensures hurt { IfErr result (λ end. HurtsOne end (F.hurt files.old) (F.hurt files.new)) }
+    ensures err { IfErr result (λ halt. IfSome (F.texts files.old)
+        (λ texts. SpecRefused texts name.now halt)) }
+    ensures uses { (uses : List Use) × AsksSpec name.now result uses
+        × AreTold (F.texts files.old) uses (F.opened files.old) (F.opened files.new)
+        (F.hurt files.old) (F.hurt files.new) (F.unread files.old) (F.unread files.new) }
+    ensures cause { IfErr result
+        (λ halt. HasSpecCause (Rose (F.faults files.old) (F.faults files.new)) halt) }
     ensures texts { F.texts files.new ≡ F.texts files.old }
     ensures lent { F.lent files.new ≡ F.lent files.old }
     ensures later { F.faults files.old ≤ F.faults files.new }
 {
     let text = match read_spec(alloc, name, files) {
         Ok(text) => text,
-        Err(end) => return Err(end),
+        Err(halt) => return Err(halt),
     };
     judge_in(alloc, text.as_slice(), limits)
 }

@@ -1,31 +1,32 @@
 //! Runs over memory.
 ghost use Rattle.std.specs.Prelude.{◌≡◌, ◌≤◌, ◌<◌, All, IfOk};
-ghost use Rattle.monitor_run.specs.Stops.{AreLawful};
+ghost use Rattle.run_model.specs.Limits.{AreLawful};
 
-use crate::end::{End, Outcome};
-use crate::limits::Limits;
+use crate::rows::{
+    Case, FORMS, NAME_FAULTS, PROPERTIES, QUANTIFIED, RECORD_FAULTS, SINCE, SMALL, SPEC_FAULTS,
+    Size, TIME_FAULTS, TIMED,
+};
 use crate::{run, run_within};
 use mon_base::{MemFile, MemFiles, MemSink, NoMemory, Steps};
+use run_model::{End, Limits, Outcome};
 use std::alloc::Global;
 use std::marker::Brand;
 use std::sync::ledger::{Blank, Ledger};
 use std::test::Fail;
 
-const SINCE: &str = "prop r : (! stop(\"a\")) S go(\"a\")\n";
-
 /// So many pieces of this size.
-fn pieces_of(alloc: Global, size: usize) -> Result<Vec<usize>, NoMemory>
+fn pieces_of(alloc: Global, size: usize, count: usize) -> Result<Vec<usize>, NoMemory>
     requires { 1 ≤ size }
     ensures { IfOk result (λ pieces. All (λ n. 1 ≤ n) pieces.items) }
 {
     let mut pieces = Vec::new(alloc);
-    for _ in 0..40 {
+    for _ in 0..count {
         pieces.push(size)?;
     }
     Ok(pieces)
 }
 
-/// A file that gives its bytes in pieces of this size, and fails once at this byte.
+/// A file that gives its bytes in pieces of this size, to its end, and fails once at this byte.
 fn file_of(
     alloc: Global,
     name: &str,
@@ -43,7 +44,7 @@ fn file_of(
     Ok(MemFile {
         name: String::from_str(alloc, name)?,
         bytes: Vec::from_slice(alloc, text.as_bytes())?,
-        pieces: pieces_of(alloc, size)?,
+        pieces: pieces_of(alloc, size, text.len() / size + 1)?,
         fail_at: failures,
         refuse: false,
     })
@@ -59,9 +60,6 @@ fn files_of(alloc: Global, spec: MemFile, log: MemFile) -> Result<MemFiles, NoMe
     files.push(log)?;
     Ok(MemFiles::new(alloc, files))
 }
-
-/// Bits of a code, nodes, and bytes of the log.
-type Size = (u8, u32, u64);
 
 /// Sizes that suffice where a test says nothing else.
 const AMPLE: Size = (8, 1_000, 1_000_000);
@@ -130,19 +128,16 @@ fn usual_run_in<L: Ledger>(
     run(alloc, words, files, out, &mut steps)
 }
 
-/// A specification and a log, the report, and the status.
-type Case = (&'static str, &'static str, &'static str, u8);
-
 /// Whether a run of this size gives this report and status, where the files give their bytes in such pieces.
 fn gives(alloc: Global, size: Size, case: &Case, piece: usize) -> Result<bool, NoMemory>
     requires { 1 ≤ piece }
 {
-    let spec = file_of(alloc, "s", case.0, piece, None)?;
-    let log = file_of(alloc, "l", case.1, piece, None)?;
+    let spec = file_of(alloc, "s", case.1, piece, None)?;
+    let log = file_of(alloc, "l", case.2, piece, None)?;
     let mut files = files_of(alloc, spec, log)?;
     let mut out = MemSink::open(alloc, 1000)?;
     let outcome = run_over(alloc, size, &["s", "l"], &mut files, &mut out)?;
-    Ok(out.bytes() == case.2.as_bytes() && outcome.status == case.3)
+    Ok(out.bytes() == case.3.as_bytes() && outcome.status == case.4)
 }
 
 /// Whether it does in pieces of each of three sizes.
@@ -154,414 +149,6 @@ fn always_gives(alloc: Global, size: Size, case: &Case) -> Result<bool, NoMemory
     }
     Ok(true)
 }
-
-const FORMS: &[Case] = &[
-    (
-        SINCE,
-        "go,a\nstop,a\n",
-        "violation 2 r\nevents 2 violations 1\n",
-        1,
-    ),
-    (SINCE, "", "events 0 violations 0\n", 0),
-    (SINCE, "go,a\ngo,b\n", "events 2 violations 0\n", 0),
-    (
-        SINCE,
-        "go,b\ngo,a\nstop,b\n",
-        "violation 1 r\nevents 3 violations 1\n",
-        1,
-    ),
-    (
-        SINCE,
-        "\u{feff} go , a \r\n\nstop,\"a\"",
-        "violation 2 r\nevents 2 violations 1\n",
-        1,
-    ),
-    (
-        SINCE,
-        "go,\"a\"\"b\"\n",
-        "violation 1 r\nevents 1 violations 1\n",
-        1,
-    ),
-    (SINCE, "go,a\nidle", "events 2 violations 0\n", 0),
-    (SINCE, "\u{feff}", "events 0 violations 0\n", 0),
-];
-
-const RECORD_FAULTS: &[Case] = &[
-    (
-        SINCE,
-        "go,a\nstop,\"a",
-        "stopped: quote not closed at record 2\n",
-        4,
-    ),
-    (
-        SINCE,
-        "stop,a\n\ngo,\"a\"b\ngo,a\n",
-        "violation 1 r\nstopped: text after quote at record 2\n",
-        4,
-    ),
-    (SINCE, "\n,x\n", "stopped: empty name at record 1\n", 4),
-];
-
-const PROPERTIES: &[Case] = &[
-    (
-        "pred on(x) = [go(x),stop(x)) prop a : on(\"1\") prop b : ! on(\"2\")",
-        "go,1\ngo,2\n",
-        "violation 2 b\nevents 2 violations 1\n",
-        1,
-    ),
-    (
-        "prop n : H (go(1) | P stop(1))",
-        "go,1\nidle\n",
-        "violation 2 n\nevents 2 violations 1\n",
-        1,
-    ),
-    (
-        "prop r : @ true",
-        "a\nb\n",
-        "violation 1 r\nevents 2 violations 1\n",
-        1,
-    ),
-    (
-        "prop r : P go prop s : go -> false prop t : go <-> stop",
-        "go\nstop\nidle\n",
-        "violation 1 s\nviolation 1 t\nviolation 2 t\nevents 3 violations 3\n",
-        1,
-    ),
-    (
-        "pred m() = a prop r : b",
-        "go\n",
-        "violation 1 r\nevents 1 violations 1\n",
-        1,
-    ),
-    (
-        "prop r : p(\"a,b\") S q",
-        "q\np,a,b\np,\"a,b\"\n",
-        "violation 2 r\nviolation 3 r\nevents 3 violations 2\n",
-        1,
-    ),
-    (
-        "prop r : p(\"a,b\")",
-        "p,\"a,b\"\n",
-        "events 1 violations 0\n",
-        0,
-    ),
-    (
-        "prop r : p(\"\",7)",
-        "p,,7\np,,07\n",
-        "violation 2 r\nevents 2 violations 1\n",
-        1,
-    ),
-    (
-        "prop r : a S (b S c)",
-        "c\nb\na\nb\n",
-        "violation 4 r\nevents 4 violations 1\n",
-        1,
-    ),
-];
-
-/// Specifications whose properties have a bound on time, and one whose macro has one that no property calls.
-const TIMED: &[Case] = &[
-    (
-        "prop h : H[>5] ok",
-        "ok,0\nbad,1\nok,6\nok,7\n",
-        "violation 4 h\nevents 4 violations 1\n",
-        1,
-    ),
-    (
-        "prop h : H[<=5] ok",
-        "bad,0\nok,5\nok,6\n",
-        "violation 1 h\nviolation 2 h\nevents 3 violations 2\n",
-        1,
-    ),
-    (
-        "prop r : P[<=7] go",
-        "go,0\nidle,7\nidle,8\n",
-        "violation 3 r\nevents 3 violations 1\n",
-        1,
-    ),
-    (
-        "prop s : a S[>3] b",
-        "b,0\na,3\na,4",
-        "violation 1 s\nviolation 2 s\nevents 3 violations 2\n",
-        1,
-    ),
-    (
-        "prop t : forall x . done(x) -> P[<=10] start(x)",
-        "start,a,0\nstart,b,5\ndone,a,10\ndone,b,16\n",
-        "violation 4 t\nevents 4 violations 1\n",
-        1,
-    ),
-    (
-        "pred m() = forall x . P[>7] a(x) prop r : go & m",
-        "go,0\n",
-        "violation 1 r\nevents 1 violations 1\n",
-        1,
-    ),
-    (
-        "pred m() = P[>7] a prop r : go",
-        "go\ngo,7\n",
-        "violation 2 r\nevents 2 violations 1\n",
-        1,
-    ),
-    (
-        "prop h : H[<=5] ok",
-        "ok,18446744073709551615\n",
-        "events 1 violations 0\n",
-        0,
-    ),
-];
-
-const TIME_FAULTS: &[Case] = &[
-    (
-        "prop h : H[<=5] ok",
-        "ok,5\nok,4\n",
-        "stopped: time falls from 5 to 4 at record 2\n",
-        4,
-    ),
-    (
-        "prop h : H[<=5] ok",
-        "bad,5\nok,5\nok,4\n",
-        "violation 1 h\nviolation 2 h\nstopped: time falls from 5 to 4 at record 3\n",
-        4,
-    ),
-    (
-        "prop r : P[<=7] go",
-        "go\n",
-        "stopped: bad time at record 1\n",
-        4,
-    ),
-    (
-        "pred m() = forall x . P[>7] a(x) prop r : go & m",
-        "go\n",
-        "stopped: bad time at record 1\n",
-        4,
-    ),
-    (
-        "prop h : H[<=5] ok",
-        "ok,18446744073709551616\n",
-        "stopped: bad time at record 1\n",
-        4,
-    ),
-];
-
-/// Who accesses logged in, and didn't log out since.
-const ACCESS: &str = "prop access : forall u . access(u) -> [login(u), logout(u))";
-
-const QUANTIFIED: &[Case] = &[
-    (
-        ACCESS,
-        "login,ann\naccess,ann\naccess,bob\nlogout,ann\naccess,ann\n",
-        "violation 3 access\nviolation 5 access\nevents 5 violations 2\n",
-        1,
-    ),
-    (ACCESS, "", "events 0 violations 0\n", 0),
-    (
-        "prop q : forall x . P p(x)",
-        "p,a\n",
-        "violation 1 q\nevents 1 violations 1\n",
-        1,
-    ),
-    (
-        "pred open(x) = exists y . o(x,y) prop m : forall y . c(y) -> P open(y)",
-        "o,a,b\nc,a\nc,b\n",
-        "violation 3 m\nevents 3 violations 1\n",
-        1,
-    ),
-    (
-        "prop w : forall x . forall y . ! r(x,y)",
-        "r,b,c\n",
-        "violation 1 w\nevents 1 violations 1\n",
-        1,
-    ),
-    (
-        "prop v : forall x . forall y . r(x) -> r(y)",
-        "r,b\n",
-        "violation 1 v\nevents 1 violations 1\n",
-        1,
-    ),
-    (
-        "prop n : exists x . go(x) prop o : forall x . go(x) -> @ P go(x)",
-        "go\ngo,a\ngo,b\ngo,a\n",
-        "violation 1 n\nviolation 2 o\nviolation 3 o\nevents 4 violations 3\n",
-        1,
-    ),
-];
-
-/// Runs of small sizes: a code that is used again, one that isn't to be had, a row that has too few nodes, and a log that is
-/// longer than its limit.
-const SMALL: &[(Size, Case)] = &[
-    (
-        (1, 1_000, 1_000),
-        (
-            ACCESS,
-            "login,ann\nlogout,ann\nlogin,bob\naccess,bob\n",
-            "events 4 violations 0\n",
-            0,
-        ),
-    ),
-    (
-        (1, 1_000, 1_000),
-        (
-            ACCESS,
-            "login,ann\nlogin,bob\n",
-            "stopped: codes full at event 2, variable 0 (u), need 2\n",
-            5,
-        ),
-    ),
-    (
-        (1, 1_000, 1_000),
-        (
-            ACCESS,
-            "login,ann\nlogout,ann\nlogin,bob\naccess,bob\nlogout,bob\naccess,ann\n",
-            "violation 6 access\nevents 6 violations 1\n",
-            1,
-        ),
-    ),
-    (
-        (1, 1_000, 1_000),
-        (
-            "prop q : exists x . ! P p(x)",
-            "p,a\n",
-            "events 1 violations 0\n",
-            0,
-        ),
-    ),
-    (
-        (2, 2, 1_000),
-        (
-            "prop r : exists x . P p(x)",
-            "p,a\n",
-            "stopped: nodes full at event 1, subformula 3, row 1\n",
-            5,
-        ),
-    ),
-    (
-        (2, 3, 1_000),
-        (
-            "prop r : exists x . P p(x)",
-            "p,a\n",
-            "events 1 violations 0\n",
-            0,
-        ),
-    ),
-    (
-        (2, 3, 1_000),
-        (
-            "prop r : exists x . P p(x)",
-            "p,a\np,b\n",
-            "stopped: nodes full at event 2, subformula 1, row 1\n",
-            5,
-        ),
-    ),
-    (
-        (2, 5, 1_000),
-        (
-            "prop r : exists x . P p(x)",
-            "p,a\np,b\np,c\n",
-            "events 3 violations 0\n",
-            0,
-        ),
-    ),
-    (
-        (1, 1_000, 1_000),
-        (
-            "prop a : false prop v : forall thing . P p(thing)",
-            "q\np,a\np,b\n",
-            "violation 1 a\nviolation 1 v\nviolation 2 a\nviolation 2 v\nstopped: codes full at event 3, variable 0 (thing), need 2\n",
-            5,
-        ),
-    ),
-    (
-        (8, 1_000, 4),
-        (
-            SINCE,
-            "go,a\nstop,a\n",
-            "stopped: log longer than 4 bytes\n",
-            4,
-        ),
-    ),
-    (
-        (8, 1_000, 11),
-        (
-            SINCE,
-            "go,a\nstop,a\n",
-            "stopped: log longer than 11 bytes\n",
-            4,
-        ),
-    ),
-    (
-        (8, 1_000, 12),
-        (
-            SINCE,
-            "go,a\nstop,a\n",
-            "violation 2 r\nevents 2 violations 1\n",
-            1,
-        ),
-    ),
-];
-
-const NAME_FAULTS: &[Case] = &[
-    ("", "go\n", "stopped: no property\n", 3),
-    (
-        "prop f : p(x)",
-        "go\n",
-        "stopped: free variable in item 0 at node 0\n",
-        3,
-    ),
-    (
-        "prop a : m(1) pred m(x) = p(x)",
-        "go\n",
-        "stopped: late macro in item 0 at node 0\n",
-        3,
-    ),
-    (
-        "pred m(x) = p(x) prop a : ! m",
-        "go\n",
-        "stopped: wrong number of macro terms in item 1 at node 1\n",
-        3,
-    ),
-    (
-        "prop a : p(1) & p",
-        "go\n",
-        "stopped: clash of arities in item 0 at node 2\n",
-        3,
-    ),
-    (
-        "prop a : p prop b : q prop a : r",
-        "go\n",
-        "stopped: duplicate name in item 2\n",
-        3,
-    ),
-    (
-        "pred a(x) = p(x)&p(x) pred b(x) = a(x)&a(x) pred c(x) = b(x)&b(x) pred d(x) = c(x)&c(x) pred e(x) = d(x)&d(x) \
-         pred f(x) = e(x)&e(x) pred g(x) = f(x)&f(x) pred h(x) = g(x)&g(x) pred i(x) = h(x)&h(x) pred j(x) = i(x)&i(x) \
-         pred k(x) = j(x)&j(x) prop q : forall x . k(x)",
-        "go\n",
-        "stopped: too many subformulas, 6143\n",
-        3,
-    ),
-];
-
-const SPEC_FAULTS: &[Case] = &[
-    (
-        "prop p : forall x . p(x",
-        "go\n",
-        "stopped: syntax at token 9\n",
-        3,
-    ),
-    (
-        "prop prop r : a ? b",
-        "go\n",
-        "stopped: no token at byte 16\n",
-        3,
-    ),
-    (
-        "prop r : P[<=1048575] go)",
-        "go\n",
-        "stopped: bound too large at token 6\n",
-        3,
-    ),
-];
 
 #[test]
 fn reports_in_pieces_of_any_size(rt: HostRuntime) -> Result<(), Fail> {
@@ -576,21 +163,11 @@ fn reports_in_pieces_of_any_size(rt: HostRuntime) -> Result<(), Fail> {
         SPEC_FAULTS,
     ] {
         for case in cases {
-            assert!(rt;
-                always_gives(rt.alloc(), AMPLE, case)?,
-                "{}, {}",
-                case.0,
-                case.1
-            );
+            assert!(rt; always_gives(rt.alloc(), AMPLE, case)?, "{}", case.0);
         }
     }
     for (size, case) in SMALL {
-        assert!(rt;
-            always_gives(rt.alloc(), *size, case)?,
-            "{}, {}",
-            case.0,
-            case.1
-        );
+        assert!(rt; always_gives(rt.alloc(), *size, case)?, "{}", case.0);
     }
     Ok(())
 }
@@ -699,7 +276,7 @@ fn filled(
     Ok(text)
 }
 
-/// A file that gives these bytes, the first ones in pieces of this size.
+/// A file that gives these bytes, the first forty times in pieces of this size.
 fn large_file(alloc: Global, name: &str, bytes: Vec<u8>, size: usize) -> Result<MemFile, NoMemory>
     requires { 1 ≤ size }
     ensures { IfOk result (λ f. All (λ n. 1 ≤ n) f.pieces.items) }
@@ -707,7 +284,7 @@ fn large_file(alloc: Global, name: &str, bytes: Vec<u8>, size: usize) -> Result<
     Ok(MemFile {
         name: String::from_str(alloc, name)?,
         bytes,
-        pieces: pieces_of(alloc, size)?,
+        pieces: pieces_of(alloc, size, 40)?,
         fail_at: Vec::new(alloc),
         refuse: false,
     })

@@ -1,8 +1,8 @@
 use Rattle.std.proofs.Common.{◌≡◌, ◌≤◌, take}
-use Rattle.monitor_run.specs.Passing.{Passes}
+use Rattle.report.specs.Passing.{Passes}
+use Rattle.report.specs.Verdicts.{false_in}
 use Rattle.monitor_run.specs.Standing.{names_in, row_of}
-use Rattle.monitor_run.specs.Verdicts.{false_in}
-use Rattle.monitor_run.proofs.Writing.{first_lines}
+use Rattle.monitor_run.proofs.Judged.Writing.{first_lines}
 use Rattle.monitor_run.proofs.judge.put_verdicts.Given as goal
 
 -- the lines of the first verdicts were written

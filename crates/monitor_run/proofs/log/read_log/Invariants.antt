@@ -2,15 +2,16 @@ use Rattle.std.proofs.Common.{◌≡◌, ◌-◌, ◌<◌, ◌≤◌, List, [], 
 use Rattle.bdd_ops.specs.Shelf.{IsLarge}
 use Rattle.qtl_syntax.specs.Tree.{Text, Item}
 use Rattle.monitor_step.specs.Monitor.{step_bound}
-use Rattle.monitor_run.specs.Judging.{IsReady, KeepsPlan, Spends}
-use Rattle.monitor_run.specs.Standing.{StandsAt, IsFed, WalkedAll}
+use Rattle.monitor_run.specs.Judging.{Spends}
+use Rattle.monitor_run.specs.Reading.{IsFed, ReadsAll}
+use Rattle.monitor_run.specs.Standing.{HasJudged, IsReady, KeepsPlan}
 use Rattle.monitor_run.proofs.log.read_log.Given as goal
 
 -- so many bytes were taken, and their events were judged
 abbrev pub invariant-pieces : goal.invariant-pieces
 invariant-pieces g l = record {
-  walked : (items : List Item) (all : Text) → StandsAt l.limits items [] [] l.fn.judge → g.S.Source.left l.fn.source ≡ Some all → (given : Text) × (length given ≡ l.taken)
-      × WalkedAll l.limits items all (g.S.Source.left l.source) (g.W.Sink.written l.fn.out) (g.W.Sink.written l.out) given false l.judge l.reader l.output;
+  reads : (items : List Item) (all : Text) → HasJudged l.limits items [] [] l.fn.judge → g.S.Source.left l.fn.source ≡ Some all → (given : Text) × (length given ≡ l.taken)
+      × ReadsAll l.limits items all (g.S.Source.left l.source) (g.W.Sink.written l.fn.out) (g.W.Sink.written l.out) given false l.judge l.reader l.output;
   room : 0 < length l.room;
   closed : l.reader.ended ≡ false;
   fed : IsFed l.taken l.reader l.judge.monitor.last_time;
@@ -21,6 +22,7 @@ invariant-pieces g l = record {
   later : g.S.Source.faults l.fn.source ≤ g.S.Source.faults l.source;
   out_later : g.W.Sink.faults l.fn.out ≤ g.W.Sink.faults l.out;
   cost : IsLarge l.fn.judge.monitor.shelf → Spends (step_bound l.fn.judge.monitor) l.fn.judge.events l.judge.events l.fn.steps l.steps;
+  idle : l.reader.given ≡ 0 → l.steps ≡ l.fn.steps;
 }
 
 abbrev pub decreases-pieces : goal.decreases-pieces

@@ -1,20 +1,23 @@
-use Rattle.std.proofs.Common.{◌∙◌, ◌+◌, ◌++◌, take, length, sym, false, arith}
+use Rattle.std.proofs.Common.{◌∙◌, ◌+◌, ◌++◌, take, length, sym, arith}
 use Rattle.std.proofs.lemmas.List.{length-take-le}
 use Rattle.monitor_step.specs.Monitor.{step_bound}
-use Rattle.monitor_run.proofs.Ends.{cause_more, rose_after}
-use Rattle.monitor_run.proofs.EventsAsked.{read_asked, walked_few}
-use Rattle.monitor_run.proofs.Given.{is_fed_piece}
-use Rattle.monitor_run.proofs.Spending.{keeps_none, spends_still}
-use Rattle.monitor_run.proofs.Walks.{walked_fed, fed_starved, read_reached}
+use Rattle.monitor_run.proofs.ReadLog.Causes.{cut_later, no_read}
+use Rattle.monitor_run.proofs.ReadLog.Given.{is_fed_piece}
+use Rattle.monitor_run.proofs.Judged.Spending.{keeps_none, spends_still}
+use Rattle.monitor_run.proofs.ReadLog.Halts.{halts_at_feed, halts_at_read}
+use Rattle.monitor_run.proofs.ReadLog.Reads.{reads_piece}
 use Rattle.monitor_run.proofs.log.take_turn.Goals as goal
 
 pub returns-in-Err-clause-err : goal.returns-in-Err-clause-err
 returns-in-Err-clause-err g c limits items all sent given short a =
-    read_reached limits items all _ _ sent _ _ given c.args.judge.now c.args.reader.now c.args.output.now c.fetch.new.output c.in-Err.end a c.in-Err.ensures.failed
+    halts_at_read limits items all sent given _ _ _ _ c.args.judge.now c.args.reader.now c.args.output.now c.fetch.new.output c.in-Err.halt a c.in-Err.ensures.failed
 
 pub returns-in-Err-feed-clause-err : goal.returns-in-Err-feed-clause-err
 returns-in-Err-feed-clause-err g c limits items all sent given short a =
-    fed_starved limits items all _ (g.S.Source.left c.fetch.new.source) sent _ _ given c.args.judge.now c.args.reader.now c.args.output.now c.fetch.new.output a c.in-Ok.ensures.sent.0 c.in-Ok.ensures.sent.1
+    let o = c.in-Ok.ensures in
+    let piece = take c.in-Ok.count c.fetch.new.room in
+    let n = length-take-le c.in-Ok.count c.fetch.new.room o.within in
+    halts_at_feed limits items all sent given _ (g.S.Source.left c.fetch.new.source) _ _ piece c.args.judge.now c.args.reader.now c.feed.new.self c.args.output.now c.fetch.new.output a o.taken o.sent.0 o.sent.1 (omega (arith, n, o.most, short)) c.feed.ensures.given
 
 pub returns-in-Err-clause-plan : goal.returns-in-Err-clause-plan
 returns-in-Err-clause-plan g c = keeps_none c.args.judge.now
@@ -22,22 +25,12 @@ returns-in-Err-clause-plan g c = keeps_none c.args.judge.now
 pub returns-in-Err-clause-cost : goal.returns-in-Err-clause-cost
 returns-in-Err-clause-cost g c large = spends_still (step_bound c.args.judge.now.monitor) c.args.judge.now.events c.args.reader.now.given c.args.steps.now c.requires.events
 
-pub returns-in-Err-clause-asked : goal.returns-in-Err-clause-asked
-returns-in-Err-clause-asked g c limits items all sent given short a =
-    read_asked limits items all _ _ sent _ _ given c.args.judge.now c.args.reader.now c.args.output.now c.fetch.new.output c.in-Err.end a c.in-Err.ensures.failed
-
 pub returns-in-Err-feed-clause-plan : goal.returns-in-Err-feed-clause-plan
 returns-in-Err-feed-clause-plan g c = keeps_none c.args.judge.now
 
 pub returns-in-Err-feed-clause-cost : goal.returns-in-Err-feed-clause-cost
 returns-in-Err-feed-clause-cost g c large =
     spends_still (step_bound c.args.judge.now.monitor) c.args.judge.now.events c.feed.new.self.given c.args.steps.now (c.requires.events ∙ sym c.feed.ensures.given)
-
-pub returns-in-Err-feed-clause-asked : goal.returns-in-Err-feed-clause-asked
-returns-in-Err-feed-clause-asked g c limits items all sent given short a =
-    let few = walked_few limits items all _ sent _ given false c.args.judge.now c.args.reader.now c.args.reader.now c.args.output.now a.walked.log a.walked a.walked.fed in
-    let same = c.feed.ensures.given in
-    omega (arith, same, few)
 
 pub judge_fed-requires-clause-fed : goal.judge_fed-requires-clause-fed
 judge_fed-requires-clause-fed g c =
@@ -59,7 +52,7 @@ returns-in-Ok-judge_fed-clause-ok g c limits items all sent given short a =
     let o = c.in-Ok.ensures in
     let piece = take c.in-Ok.count c.fetch.new.room in
     let n = length-take-le c.in-Ok.count c.fetch.new.room o.within in
-    let w = walked_fed limits items all _ _ sent _ _ given piece c.args.judge.now c.args.reader.now c.feed.new.self c.args.output.now c.fetch.new.output a o.taken o.sent.0 o.sent.1 (omega (arith, n, o.most, short)) e.fed e.stands in
+    let w = reads_piece limits items all _ _ sent _ _ given piece c.args.judge.now c.args.reader.now c.feed.new.self c.args.output.now c.fetch.new.output a o.taken o.sent.0 o.sent.1 (omega (arith, n, o.most, short)) e.fed e.stands in
     (piece, n, c.in-Ok-judge_fed.ensures.ok limits items all _ sent (given ++ piece) _ w)
 
 pub returns-in-Ok-judge_fed-clause-fed : goal.returns-in-Ok-judge_fed-clause-fed
@@ -75,18 +68,12 @@ returns-in-Err-judge_fed-clause-err g c limits items all sent given short a =
     let o = c.in-Ok.ensures in
     let piece = take c.in-Ok.count c.fetch.new.room in
     let n = length-take-le c.in-Ok.count c.fetch.new.room o.within in
-    let w = walked_fed limits items all _ _ sent _ _ given piece c.args.judge.now c.args.reader.now c.feed.new.self c.args.output.now c.fetch.new.output a o.taken o.sent.0 o.sent.1 (omega (arith, n, o.most, short)) e.fed e.stands in
+    let w = reads_piece limits items all _ _ sent _ _ given piece c.args.judge.now c.args.reader.now c.feed.new.self c.args.output.now c.fetch.new.output a o.taken o.sent.0 o.sent.1 (omega (arith, n, o.most, short)) e.fed e.stands in
     c.in-Err-judge_fed.ensures.err limits items all _ sent (given ++ piece) _ w
-
-pub returns-in-Err-judge_fed-clause-asked : goal.returns-in-Err-judge_fed-clause-asked
-returns-in-Err-judge_fed-clause-asked g c limits items all sent given short a =
-    let e = c.in-Ok-feed.ensures in
-    let o = c.in-Ok.ensures in
-    let piece = take c.in-Ok.count c.fetch.new.room in
-    let n = length-take-le c.in-Ok.count c.fetch.new.room o.within in
-    let w = walked_fed limits items all _ _ sent _ _ given piece c.args.judge.now c.args.reader.now c.feed.new.self c.args.output.now c.fetch.new.output a o.taken o.sent.0 o.sent.1 (omega (arith, n, o.most, short)) e.fed e.stands in
-    c.in-Err-judge_fed.ensures.asked limits items all _ sent (given ++ piece) _ w
 
 pub returns-in-Err-judge_fed-clause-cause : goal.returns-in-Err-judge_fed-clause-cause
 returns-in-Err-judge_fed-clause-cause g c =
-    cause_more _ _ _ c.in-Err-judge_fed.end (rose_after _ _ _ c.fetch.ensures.out_later) c.in-Err-judge_fed.ensures.cause
+    cut_later _ _ _ c.in-Err-judge_fed.halt c.fetch.ensures.out_later c.in-Err-judge_fed.ensures.cause
+
+pub returns-in-Err-judge_fed-clause-read : goal.returns-in-Err-judge_fed-clause-read
+returns-in-Err-judge_fed-clause-read g c = no_read _ c.in-Err-judge_fed.halt c.in-Err-judge_fed.ensures.no_read

@@ -1,41 +1,60 @@
-use Rattle.monitor_run.specs.Files.{IsLastOf}
-use Rattle.monitor_run.proofs.Asked.{asked_kept, one_asked, gains_told, given_no_err, stays_told}
-use Rattle.monitor_run.proofs.BodyTold.{opened_told, starved_told, reached_log}
-use Rattle.monitor_run.proofs.EventsAsked.{reached_asked}
-use Rattle.monitor_run.proofs.Namings.{reached_named}
-use Rattle.monitor_run.proofs.RunCosts.{opened_cost, unopened_cost}
+use Rattle.std.proofs.Common.{[], ◌∷◌, refl, ap, nat_lt}
+use Rattle.std.specs.Prelude.{Err}
+use Rattle.run_model.specs.Uses.{Closed, NotGiven, given}
+use Rattle.monitor_run.proofs.Telling.LogUse.{asks_closed, costs_log, log_closed, log_refused, log_starved}
+use Rattle.monitor_run.proofs.Telling.OneUse.{has_failed}
+use Rattle.run_model.proofs.Trace.{stays_gained, tell_closed, tell_none, tell_refused}
 use Rattle.monitor_run.proofs.session.run_log.Goals as goal
 
-pub returns-in-Err-clause-told : goal.returns-in-Err-clause-told
-returns-in-Err-clause-told g c items stands =
-    rw c.early.ensures (starved_told c.args.limits (g.F.Files.texts c.args.files.now) c.args.name.now items (λ rest. IsLastOf (g.F.Files.unread c.args.files.now) (g.F.Files.unread c.args.files.now) rest) _ c.args.output.now c.requires.nothing)
+pub returns-in-Err-clause-halted : goal.returns-in-Err-clause-halted
+returns-in-Err-clause-halted g c = (
+  [],
+  ([], given c.args.name.now ∷ [], refl, tt),
+  tell_none _ _ _,
+  λ items spec s.
+      log_starved (record { limits = c.args.limits; spec = spec; log = c.args.name.now }) (g.F.Files.texts c.args.files.now) items _ c.args.output.now c.args.judge.now c.args.steps.now c.requires.nothing,
+)
 
-pub returns-in-Err-clause-cost : goal.returns-in-Err-clause-cost
-returns-in-Err-clause-cost g c items stands ample = unopened_cost c.args.limits (g.F.Files.texts c.args.files.now) c.args.name.now items _ c.args.steps.now
+pub returns-in-Err-open-clause-halted : goal.returns-in-Err-open-clause-halted
+returns-in-Err-open-clause-halted g c = (
+  [],
+  ([], given c.args.name.now ∷ [], refl, tt),
+  tell_none _ _ _,
+  λ items spec s.
+      log_starved (record { limits = c.args.limits; spec = spec; log = c.args.name.now }) (g.F.Files.texts c.args.files.now) items _ c.args.output.now c.args.judge.now c.args.steps.now c.requires.nothing,
+)
 
-pub returns-in-Err-open-clause-told : goal.returns-in-Err-open-clause-told
-returns-in-Err-open-clause-told g c items stands =
-    rw c.early-in-Err-open.ensures (starved_told c.args.limits (g.F.Files.texts c.args.files.now) c.args.name.now items (λ rest. IsLastOf (g.F.Files.unread c.args.files.now) (g.F.Files.unread c.args.files.now) rest) _ c.args.output.now c.requires.nothing)
+pub returns-in-Ok-open-2-clause-halted : goal.returns-in-Ok-open-2-clause-halted
+returns-in-Ok-open-2-clause-halted g c =
+    let r = c.read_log-halt.ensures in
+    let o = c.in-Ok-open-2.ensures in
+    let hurt = nat_lt 0 (g.F.Src.Source.faults c.read_log-halt.new.source) in
+    let left = g.F.Src.Source.left c.read_log-halt.new.source in (
+      record { name = c.args.name.now; came = Closed hurt left } ∷ [],
+      asks_closed c.args.name.now hurt left _ c.read_log-halt.result r.read (has_failed _ _ o.fresh),
+      tell_closed c.args.name.now hurt left _ (g.F.Files.opened c.open-2.new.self) _ _ (g.F.Files.hurt c.open-2.new.self) _ _ (g.F.Files.unread c.open-2.new.self) _
+          (o.asked (λ h. let n : ⊥ = cc in n)) c.close.ensures.opened o.hurt c.close.ensures.hurt o.unread c.close.ensures.unread,
+      λ items spec s. log_closed (record { limits = c.args.limits; spec = spec; log = c.args.name.now }) (g.F.Files.texts c.args.files.now) items _ left _ _ c.read_log-halt.new.output hurt c.read_log-halt.new.judge c.read_log-halt.new.reader.given _ _ c.read_log-halt.result
+          o.text (λ all is. r.halted items all s is)
+          (costs_log (record { limits = c.args.limits; spec = spec; log = c.args.name.now }) items c.args.judge.now c.args.judge.now.events c.read_log-halt.new.reader.given _ _ s c.requires.events r.idle r.cost),
+    )
 
-pub returns-in-Err-open-clause-cost : goal.returns-in-Err-open-clause-cost
-returns-in-Err-open-clause-cost g c items stands ample = unopened_cost c.args.limits (g.F.Files.texts c.args.files.now) c.args.name.now items _ c.args.steps.now
+pub returns-in-Err-Failed-clause-halted : goal.returns-in-Err-Failed-clause-halted
+returns-in-Err-Failed-clause-halted g c = (
+  record { name = c.args.name.now; came = NotGiven } ∷ [],
+  (refl, tt, tt),
+  tell_refused c.args.name.now _ (g.F.Files.opened c.open-2.new.self) _ (g.F.Files.hurt c.open-2.new.self) _ (g.F.Files.unread c.open-2.new.self) (c.open-2.ensures.asked (λ h. let n : ⊥ = cc in n)) c.open-2.ensures.hurt c.open-2.ensures.unread,
+  λ items spec s. log_refused (record { limits = c.args.limits; spec = spec; log = c.args.name.now }) (g.F.Files.texts c.args.files.now) items c.args.name.now _ c.args.output.now c.args.judge.now c.args.steps.now s.events s.violations c.requires.nothing,
+)
 
-pub returns-in-Ok-open-2-clause-told : goal.returns-in-Ok-open-2-clause-told
-returns-in-Ok-open-2-clause-told g c items stands =
-    opened_told c.args.limits (g.F.Files.texts c.args.files.now) c.args.name.now items (λ rest. IsLastOf (g.F.Files.unread c.args.files.now) (g.F.Files.unread c.close.new.self) rest) _ _ _ _ _ c.reached_at.result.end c.reached_at.result.events
-    (λ rest is. gains_told _ (g.F.Files.unread c.open-2.new.self) _ _ rest is (stays_told _ _ c.in-Ok-open-2.ensures.unread) c.close.ensures.unread) c.in-Ok-open-2.ensures.text
-    (λ all is. reached_log c.args.limits items all _ _ _ _ c.read_log-end.new.judge c.read_log-end.result c.reached_at.result c.reached_at.ensures (c.read_log-end.ensures.reached items all stands is))
-
-pub returns-in-Ok-open-2-clause-named : goal.returns-in-Ok-open-2-clause-named
-returns-in-Ok-open-2-clause-named g c items stands =
-    reached_named c.args.limits items c.args.judge c.read_log-end.new.judge c.read_log-end.result c.reached_at.result stands c.read_log-end.ensures.plan.plan c.reached_at.ensures
-
-pub returns-in-Ok-open-2-clause-opened : goal.returns-in-Ok-open-2-clause-opened
-returns-in-Ok-open-2-clause-opened g c =
-    one_asked c.args.name.now c.reached_at.result.end _ _ (asked_kept _ (g.F.Files.opened c.open-2.new.self) _ c.args.name.now (c.in-Ok-open-2.ensures.asked (λ h. given_no_err _ _ h)) c.close.ensures.opened)
-
-pub returns-in-Ok-open-2-clause-cost : goal.returns-in-Ok-open-2-clause-cost
-returns-in-Ok-open-2-clause-cost g c items stands ample =
-    opened_cost c.args.limits (g.F.Files.texts c.args.files.now) c.args.name.now items c.args.judge _ c.reached_at.result.end c.args.judge.events c.read_log-end.new.reader.given _ _ stands ample c.requires.events
-    c.in-Ok-open-2.ensures.text
-    (λ all is. reached_asked c.args.limits items all c.read_log-end.new.judge c.read_log-end.result c.reached_at.result c.read_log-end.new.reader.given c.reached_at.ensures (c.read_log-end.ensures.asked items all stands is)) c.read_log-end.ensures.cost
+pub returns-clause-halted : goal.returns-clause-halted
+returns-clause-halted g c = (
+  [],
+  ([], given c.args.name.now ∷ [], refl, tt),
+  record {
+    opened = stays_gained _ (g.F.Files.opened c.open-2.new.self) (c.in-Err-NoMemory.ensures.opened (ap Err c.in-Err-NoMemory.field-0-is));
+    hurt = stays_gained _ (g.F.Files.hurt c.open-2.new.self) c.open-2.ensures.hurt;
+    unread = stays_gained _ (g.F.Files.unread c.open-2.new.self) c.open-2.ensures.unread;
+  },
+  λ items spec s. log_starved (record { limits = c.args.limits; spec = spec; log = c.args.name.now }) (g.F.Files.texts c.args.files.now) items _ c.args.output.now c.args.judge.now c.args.steps.now c.requires.nothing,
+)

@@ -6,9 +6,9 @@ use Rattle.wellformed.specs.CoreTree.{CoreFormula}
 use Rattle.wellformed.specs.Expansion.{expanded_props}
 use Rattle.wellformed.specs.Kept.{AreKept}
 use Rattle.monitor_run.specs.Standing.{IsPlanOf}
-use Rattle.monitor_run.specs.Stops.{table_in, variables_in}
-use Rattle.monitor_run.proofs.FewTerms.{plan_few}
-use Rattle.monitor_run.proofs.Specifications.{judge_stands}
+use Rattle.run_model.specs.Limits.{table_in, variables_in}
+use Rattle.monitor_run.proofs.Accepting.FewTerms.{plan_few}
+use Rattle.monitor_run.proofs.Accepting.Specifications.{judge_stands}
 use Rattle.monitor_run.proofs.specification.judge_in.Goals as goal
 
 pub open-requires-clause-few_terms : goal.open-requires-clause-few_terms
@@ -35,7 +35,7 @@ returns-in-Ok-open-clause-ok c =
       items = items;
       spelled = c.in-Ok.ensures.ok;
       clear = c.in-Ok-check.ensures.accepted refl;
-      stands = judge_stands c.args.limits items _ (subst (λ (p : table.Table). IsPlanOf items p) (sym c.in-Ok-open.ensures.plan) is)
+      judged = judge_stands c.args.limits items _ (subst (λ (p : table.Table). IsPlanOf items p) (sym c.in-Ok-open.ensures.plan) is)
           (record { bits = c.in-Ok-open.ensures.bits; nodes = c.in-Ok-open.ensures.room; cache = c.in-Ok-open.ensures.entries }) c.in-Ok-open.ensures.stands refl refl;
     }
 

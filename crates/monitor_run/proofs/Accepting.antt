@@ -1,0 +1,3 @@
+pub mod FewTerms
+pub mod Specifications
+pub mod TimedRows

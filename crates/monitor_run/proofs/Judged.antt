@@ -1,0 +1,4 @@
+pub mod Judges
+pub mod Rows
+pub mod Spending
+pub mod Writing

@@ -1,0 +1,156 @@
+-- The verdicts of the monitor are those of the properties, and go on by one row for each event.
+use Rattle.std.proofs.Common.{◌≡◌, ℕ, zero, suc, ◌+◌, ◌<◌, ◌≤◌, ◌⊎◌, ◌↔◌, inl, inr, List, [], ◌∷◌, ◌++◌, map, length, length-append, refl, sym, ap, ◌∙◌, append_assoc, append-nil, arith, Bool, true, false, IsTrue, get_or}
+use Rattle.std.specs.List.{AllByRecursion}
+use Rattle.std.proofs.lemmas.Bool.{cases_lt}
+use Rattle.qtl_syntax.specs.Tree.{Text, Item, Pred, Prop}
+use Rattle.qtl_truth.specs.declared.event.Event.{Event}
+use Rattle.qtl_truth.proofs.Past.{holds_past, same_to_append}
+use Rattle.wellformed.specs.Kept.{AreKept}
+use Rattle.subformulas.specs.declared.table.PlanProp.{PlanProp}
+use Rattle.subformulas.specs.declared.table.Sub.{Sub}
+use Rattle.subformulas.specs.Assigned.{texts_in, Truth}
+use Rattle.subformulas.specs.Table.{HasRoot, IsClosedProp, IsSound}
+use Rattle.subformulas.specs.Unfolded.{formula_at, props_at}
+use Rattle.subformulas.proofs.Below.{each_atom_below}
+use Rattle.subformulas.proofs.Closed.{closed_is}
+use Rattle.subformulas.proofs.FromLists.{in_list, truth_read}
+use Rattle.node_tree.specs.Tree.{Zero, One}
+use Rattle.wellformed.specs.CoreTruth.{TrueCore}
+use Rattle.monitor_model.specs.State.{State, Stands, setting_of, now_of, is_one, verdict_at}
+use Rattle.monitor_model.proofs.Telling.Verdict.{verdict}
+use Rattle.monitor_step.specs.Monitor.{variables_of}
+use Rattle.report.specs.Lines.{event_lines, report_lines}
+use Rattle.report.specs.Verdicts.{Verdict, True, False, false_in, false_count}
+use Rattle.run_model.specs.Verdicts.{Property, properties, properties_behind, names, IsTrueAt, IsVerdict, IsRow, AreVerdicts}
+use Rattle.monitor_run.specs.Standing.{IsPlanOf, StandsFor, names_in, row_of, verdict_of}
+
+-- the names are those of the properties
+names_kept : (log : List Event) (nu : List Text) (subs : List Sub) (before items : List Item) (props : List PlanProp) → AreKept log nu before items (props_at subs props) →
+    map (λ q. q.name) props ≡ names (properties_behind before items)
+names_kept log nu subs before [] [] k = refl
+names_kept log nu subs before [] (q ∷ props) k = absurd k
+names_kept log nu subs before (Pred name params body ∷ items) props k = names_kept log nu subs (Pred name params body ∷ before) items props k
+names_kept log nu subs before (Prop name body ∷ items) [] k = absurd k
+names_kept log nu subs before (Prop name body ∷ items) (q ∷ props) k =
+    let rest = names_kept log nu subs (Prop name body ∷ before) items props k.2 in
+    let first = k.0 in
+    cc
+
+-- the verdict of a truth
+verdict_is : (log : List Event) (i : ℕ) (p : Property) (v : Bool) → IsTrue v ↔ IsTrueAt log i p → IsVerdict log i p (verdict_of v)
+verdict_is log i p true h = h.0 refl
+verdict_is log i p false h = (λ t. let no : false ≡ true = h.1 t in cc, refl)
+
+-- the verdicts of a monitor that stands for a log and has judged an event are the truths there
+module _ (m : State) (sound : IsSound m.plan) (log : List Event) (nu : List Text) (stands : Stands m log)
+    (judged : m.has_now ≡ true) (long : variables_of m ≤ length nu) where
+  verdict_tells : (q : PlanProp) → IsClosedProp m.plan.subs q → HasRoot (length m.plan.subs) q →
+      IsTrue (verdict_at m q.root) ↔ TrueCore log nu (formula_at m.plan.subs q.root) (length log)
+  verdict_tells q closed root =
+      by_tree
+      (verdict (setting_of m) log (length log) stands.books q.root (now_of m q.root)
+      (closed_is (formula_at m.plan.subs q.root) closed)
+      (stands.now judged q.root root.0 root.1) (texts_in nu))
+    where
+      reads : TrueCore log nu (formula_at m.plan.subs q.root) (length log) ↔
+          Truth log (formula_at m.plan.subs q.root) (texts_in nu) (length log)
+      reads =
+          truth_read log (variables_of m) (formula_at m.plan.subs q.root)
+          (each_atom_below (variables_of m) m.plan.subs sound.table sound.uses q.root root.0 root.1) nu
+          (texts_in nu) (λ x l. in_list nu x (omega (arith, long, l))) (length log)
+
+      by_tree :
+          ((now_of m q.root ≡ One) × Truth log (formula_at m.plan.subs q.root) (texts_in nu) (length log)) ⊎
+          ((now_of m q.root ≡ Zero) × (¬ Truth log (formula_at m.plan.subs q.root) (texts_in nu) (length log))) →
+          IsTrue (verdict_at m q.root) ↔ TrueCore log nu (formula_at m.plan.subs q.root) (length log)
+      by_tree (inl h) = (λ x. reads.1 h.1, λ x. ap is_one h.0)
+      by_tree (inr h) = (λ x. absurd (let no : true ≡ false = sym x ∙ ap is_one h.0 in cc), λ x. absurd (h.1 (reads.0 x)))
+
+  rows_kept : (before items : List Item) (props : List PlanProp) →
+      AreKept log nu before items (props_at m.plan.subs props) →
+      AllByRecursion (IsClosedProp m.plan.subs) props →
+      AllByRecursion (HasRoot (length m.plan.subs)) props →
+      IsRow log (length log) (properties_behind before items) (map (λ q. verdict_of (verdict_at m q.root)) props)
+  rows_kept before [] [] k closed roots = tt
+  rows_kept before [] (q ∷ props) k closed roots = absurd k
+  rows_kept before (Pred name params body ∷ items) props k closed roots =
+      rows_kept (Pred name params body ∷ before) items props k closed roots
+  rows_kept before (Prop name body ∷ items) [] k closed roots = absurd k
+  rows_kept before (Prop name body ∷ items) (q ∷ props) k closed roots =
+      let here = k.1 (length log) in
+      let tells = verdict_tells q closed.0 roots.0 in
+      let p : Property = record { before = before; name = name; formula = body } in
+      (verdict_is log (length log) p (verdict_at m q.root) (λ x. here.1 (tells.0 x), λ x. tells.1 (here.0 x)), rows_kept (Prop name body ∷ before) items props k.2 closed.1 roots.1)
+
+-- a list with a text for each variable
+abbrev texts_for : ℕ → List Text
+texts_for zero = []
+texts_for (suc n) = [] ∷ texts_for n
+
+many_texts : (n : ℕ) → n ≤ length (texts_for n)
+many_texts zero = omega arith
+many_texts (suc n) = let h = many_texts n in omega (arith, h)
+
+pub plan_names : (items : List Item) (m : State) → IsPlanOf items m.plan → names_in m ≡ names (properties items)
+plan_names items m p =
+    let nu = texts_for (variables_of m) in
+    names_kept [] nu m.plan.subs [] items m.plan.props (p.kept [] nu (many_texts (variables_of m)))
+
+-- the row of a monitor that stands for a log has the verdicts of the log's last event
+pub row_right : (items : List Item) (m : State) (log : List Event) → IsPlanOf items m.plan → StandsFor m log → 1 ≤ length log → IsRow log (length log) (properties items) (row_of m)
+row_right items m log p s some =
+    let nu = texts_for (variables_of m) in
+    let long = many_texts (variables_of m) in
+    rows_kept m p.sound log nu s.stands (s.judged some) long [] items m.plan.props (p.kept log nu long) p.sound.closed p.sound.roots
+
+-- a verdict stays right when an event comes
+verdict_stays : (log : List Event) (e : Event) (i : ℕ) → 1 ≤ i → i ≤ length log → (p : Property) (v : Verdict) → IsVerdict log i p v → IsVerdict (log ++ e ∷ []) i p v
+verdict_stays log e i low high p True r = (holds_past (length log) log (log ++ e ∷ []) (same_to_append log (e ∷ [])) p.before i [] p.formula low high).0 r
+verdict_stays log e i low high p (False witness) (untrue, shown) =
+    (λ x. untrue ((holds_past (length log) log (log ++ e ∷ []) (same_to_append log (e ∷ [])) p.before i [] p.formula low high).1 x), shown)
+
+-- and so does a row
+row_stays : (log : List Event) (e : Event) (i : ℕ) → 1 ≤ i → i ≤ length log → (ps : List Property) (row : List Verdict) → IsRow log i ps row → IsRow (log ++ e ∷ []) i ps row
+row_stays log e i low high [] [] r = tt
+row_stays log e i low high [] (v ∷ row) r = absurd r
+row_stays log e i low high (p ∷ ps) [] r = absurd r
+row_stays log e i low high (p ∷ ps) (v ∷ row) r = (verdict_stays log e i low high p v r.0, row_stays log e i low high ps row r.1)
+
+get_before : (rows : List (List Verdict)) (row : List Verdict) (i : ℕ) → i < length rows → get_or (rows ++ row ∷ []) i [] ≡ get_or rows i []
+get_before [] row i h = absurd (omega arith)
+get_before (r ∷ rows) row zero h = refl
+get_before (r ∷ rows) row (suc i) h = get_before rows row i (omega arith)
+
+get_behind : (rows : List (List Verdict)) (row : List Verdict) → get_or (rows ++ row ∷ []) (length rows) [] ≡ row
+get_behind [] row = refl
+get_behind (r ∷ rows) row = get_behind rows row
+
+row_each : (log : List Event) (e : Event) (ps : List Property) (rows : List (List Verdict)) (row : List Verdict) → AreVerdicts log ps rows → IsRow (log ++ e ∷ []) (length log + 1) ps row →
+    (i : ℕ) → i + 1 ≤ length log + 1 → (length log < i + 1) ⊎ (i + 1 ≤ length log) → IsRow (log ++ e ∷ []) (i + 1) ps (get_or (rows ++ row ∷ []) i [])
+row_each log e ps rows row a r i h (inl last) =
+    let is : i ≡ length log = omega arith in
+    let at : i ≡ length rows = omega (arith, a.count, is) in
+    rw (at, get_behind rows row, ← at, is) r
+row_each log e ps rows row a r i h (inr before) =
+    rw (get_before rows row i (omega (arith, a.count))) (row_stays log e (i + 1) (omega arith) before ps (get_or rows i []) (a.each i before))
+
+pub verdicts_more : (log : List Event) (e : Event) (ps : List Property) (rows : List (List Verdict)) (row : List Verdict) → AreVerdicts log ps rows → IsRow (log ++ e ∷ []) (length log + 1) ps row →
+    AreVerdicts (log ++ e ∷ []) ps (rows ++ row ∷ [])
+verdicts_more log e ps rows row a r =
+    let n : length (log ++ e ∷ []) ≡ length log + 1 = let m = length-append log (e ∷ []) in omega (arith, m) in
+    let m : length (rows ++ row ∷ []) ≡ length rows + 1 = let k = length-append rows (row ∷ []) in omega (arith, k) in
+    record {
+      count = omega (arith, a.count, n, m);
+      each = λ i h. row_each log e ps rows row a r i (omega (arith, h, n)) (cases_lt (length log) (i + 1));
+    }
+
+pub lines_more : (event : ℕ) (ns : List Text) (rows : List (List Verdict)) (row : List Verdict) →
+    report_lines event ns (rows ++ row ∷ []) ≡ report_lines event ns rows ++ event_lines (event + length rows) ns row
+lines_more event ns [] row = append-nil (event_lines event ns row) ∙ ap (λ (n : ℕ). event_lines n ns row) (let e : event ≡ event + 0 = omega arith in e)
+lines_more event ns (r ∷ rows) row =
+    ap (λ (l : Text). event_lines event ns r ++ l) (lines_more (event + 1) ns rows row ∙ ap (λ (n : ℕ). report_lines (event + 1) ns rows ++ event_lines n ns row) (let e : event + 1 + length rows ≡ event + length (r ∷ rows) = omega arith in e))
+    ∙ sym (append_assoc (event_lines event ns r) (report_lines (event + 1) ns rows) (event_lines (event + length (r ∷ rows)) ns row))
+
+pub false_more : (rows : List (List Verdict)) (row : List Verdict) → false_count (rows ++ row ∷ []) ≡ false_count rows + false_in row
+false_more [] row = let e : false_in row + 0 ≡ 0 + false_in row = omega arith in e
+false_more (r ∷ rows) row = let h = false_more rows row in ap (λ (n : ℕ). false_in r + n) h ∙ (let e : false_in r + (false_count rows + false_in row) ≡ false_in r + false_count rows + false_in row = omega arith in e)

@@ -1,0 +1,5 @@
+pub mod Causes
+pub mod Given
+pub mod Halts
+pub mod Reaching
+pub mod Reads

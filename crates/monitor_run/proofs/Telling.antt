@@ -1,0 +1,4 @@
+pub mod Fronts
+pub mod LogUse
+pub mod OneUse
+pub mod Owing

@@ -1,7 +1,0 @@
-use Rattle.mon_base.proofs.Appending.{on_err}
-use Rattle.monitor_run.proofs.Passages.{front_flushed}
-use Rattle.monitor_run.proofs.last.send_last.Goals as goal
-
-pub returns-in_err-flush-clause-err : goal.returns-in_err-flush-clause-err
-returns-in_err-flush-clause-err g c =
-    on_err c.from_residual-in_err-flush.result (front_flushed _ _ _ c.args.output.now c.put_last.new.output _ c.in_ok-put_last.ensures.ok c.in_err-flush.ensures.err)

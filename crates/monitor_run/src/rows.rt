@@ -1,0 +1,496 @@
+//! The rows of the tests: specifications and logs, with their reports.
+
+/// A name, a specification and a log, the report, and the status.
+pub type Case = (&'static str, &'static str, &'static str, &'static str, u8);
+
+/// Bits of a code, nodes, and bytes of the log.
+pub type Size = (u8, u32, u64);
+
+pub const SINCE: &str = "prop r : (! stop(\"a\")) S go(\"a\")\n";
+
+/// Who accesses logged in, and didn't log out since.
+pub const ACCESS: &str = "prop access : forall u . access(u) -> [login(u), logout(u))";
+
+pub const FORMS: &[Case] = &[
+    (
+        "false at one event",
+        SINCE,
+        "go,a\nstop,a\n",
+        "violation 2 r\nevents 2 violations 1\n",
+        1,
+    ),
+    ("an empty log", SINCE, "", "events 0 violations 0\n", 0),
+    (
+        "true at each event",
+        SINCE,
+        "go,a\ngo,b\n",
+        "events 2 violations 0\n",
+        0,
+    ),
+    (
+        "false before the first one",
+        SINCE,
+        "go,b\ngo,a\nstop,b\n",
+        "violation 1 r\nevents 3 violations 1\n",
+        1,
+    ),
+    (
+        "a mark, blanks and quotes",
+        SINCE,
+        "\u{feff} go , a \r\n\nstop,\"a\"",
+        "violation 2 r\nevents 2 violations 1\n",
+        1,
+    ),
+    (
+        "doubled quotes",
+        SINCE,
+        "go,\"a\"\"b\"\n",
+        "violation 1 r\nevents 1 violations 1\n",
+        1,
+    ),
+    (
+        "no line feed at the end",
+        SINCE,
+        "go,a\nidle",
+        "events 2 violations 0\n",
+        0,
+    ),
+    (
+        "a mark alone",
+        SINCE,
+        "\u{feff}",
+        "events 0 violations 0\n",
+        0,
+    ),
+];
+
+pub const RECORD_FAULTS: &[Case] = &[
+    (
+        "a quote open at the end",
+        SINCE,
+        "go,a\nstop,\"a",
+        "stopped: quote not closed at record 2\n",
+        4,
+    ),
+    (
+        "text behind a quote",
+        SINCE,
+        "stop,a\n\ngo,\"a\"b\ngo,a\n",
+        "violation 1 r\nstopped: text after quote at record 2\n",
+        4,
+    ),
+    (
+        "an empty name",
+        SINCE,
+        "\n,x\n",
+        "stopped: empty name at record 1\n",
+        4,
+    ),
+];
+
+pub const PROPERTIES: &[Case] = &[
+    (
+        "two properties over a macro",
+        "pred on(x) = [go(x),stop(x)) prop a : on(\"1\") prop b : ! on(\"2\")",
+        "go,1\ngo,2\n",
+        "violation 2 b\nevents 2 violations 1\n",
+        1,
+    ),
+    (
+        "historically",
+        "prop n : H (go(1) | P stop(1))",
+        "go,1\nidle\n",
+        "violation 2 n\nevents 2 violations 1\n",
+        1,
+    ),
+    (
+        "previous at the first event",
+        "prop r : @ true",
+        "a\nb\n",
+        "violation 1 r\nevents 2 violations 1\n",
+        1,
+    ),
+    (
+        "three properties",
+        "prop r : P go prop s : go -> false prop t : go <-> stop",
+        "go\nstop\nidle\n",
+        "violation 1 s\nviolation 1 t\nviolation 2 t\nevents 3 violations 3\n",
+        1,
+    ),
+    (
+        "a macro that no property calls",
+        "pred m() = a prop r : b",
+        "go\n",
+        "violation 1 r\nevents 1 violations 1\n",
+        1,
+    ),
+    (
+        "a comma in quotes",
+        "prop r : p(\"a,b\") S q",
+        "q\np,a,b\np,\"a,b\"\n",
+        "violation 2 r\nviolation 3 r\nevents 3 violations 2\n",
+        1,
+    ),
+    (
+        "a comma in quotes alone",
+        "prop r : p(\"a,b\")",
+        "p,\"a,b\"\n",
+        "events 1 violations 0\n",
+        0,
+    ),
+    (
+        "texts are compared by bytes",
+        "prop r : p(\"\",7)",
+        "p,,7\np,,07\n",
+        "violation 2 r\nevents 2 violations 1\n",
+        1,
+    ),
+    (
+        "since within since",
+        "prop r : a S (b S c)",
+        "c\nb\na\nb\n",
+        "violation 4 r\nevents 4 violations 1\n",
+        1,
+    ),
+];
+
+/// Specifications whose properties have a bound on time, and one whose macro has one that no property calls.
+pub const TIMED: &[Case] = &[
+    (
+        "historically, more than",
+        "prop h : H[>5] ok",
+        "ok,0\nbad,1\nok,6\nok,7\n",
+        "violation 4 h\nevents 4 violations 1\n",
+        1,
+    ),
+    (
+        "historically, at most",
+        "prop h : H[<=5] ok",
+        "bad,0\nok,5\nok,6\n",
+        "violation 1 h\nviolation 2 h\nevents 3 violations 2\n",
+        1,
+    ),
+    (
+        "once, at most",
+        "prop r : P[<=7] go",
+        "go,0\nidle,7\nidle,8\n",
+        "violation 3 r\nevents 3 violations 1\n",
+        1,
+    ),
+    (
+        "since, more than",
+        "prop s : a S[>3] b",
+        "b,0\na,3\na,4",
+        "violation 1 s\nviolation 2 s\nevents 3 violations 2\n",
+        1,
+    ),
+    (
+        "a deadline for each value",
+        "prop t : forall x . done(x) -> P[<=10] start(x)",
+        "start,a,0\nstart,b,5\ndone,a,10\ndone,b,16\n",
+        "violation 4 t\nevents 4 violations 1\n",
+        1,
+    ),
+    (
+        "a bound in a macro that is called",
+        "pred m() = forall x . P[>7] a(x) prop r : go & m",
+        "go,0\n",
+        "violation 1 r\nevents 1 violations 1\n",
+        1,
+    ),
+    (
+        "a bound in a macro that isn't",
+        "pred m() = P[>7] a prop r : go",
+        "go\ngo,7\n",
+        "violation 2 r\nevents 2 violations 1\n",
+        1,
+    ),
+    (
+        "the largest time",
+        "prop h : H[<=5] ok",
+        "ok,18446744073709551615\n",
+        "events 1 violations 0\n",
+        0,
+    ),
+];
+
+pub const TIME_FAULTS: &[Case] = &[
+    (
+        "a time that falls",
+        "prop h : H[<=5] ok",
+        "ok,5\nok,4\n",
+        "stopped: time falls from 5 to 4 at record 2\n",
+        4,
+    ),
+    (
+        "a time that falls behind violations",
+        "prop h : H[<=5] ok",
+        "bad,5\nok,5\nok,4\n",
+        "violation 1 h\nviolation 2 h\nstopped: time falls from 5 to 4 at record 3\n",
+        4,
+    ),
+    (
+        "no time",
+        "prop r : P[<=7] go",
+        "go\n",
+        "stopped: bad time at record 1\n",
+        4,
+    ),
+    (
+        "no time for a macro's bound",
+        "pred m() = forall x . P[>7] a(x) prop r : go & m",
+        "go\n",
+        "stopped: bad time at record 1\n",
+        4,
+    ),
+    (
+        "a time above the largest",
+        "prop h : H[<=5] ok",
+        "ok,18446744073709551616\n",
+        "stopped: bad time at record 1\n",
+        4,
+    ),
+];
+
+pub const QUANTIFIED: &[Case] = &[
+    (
+        "access between login and logout",
+        ACCESS,
+        "login,ann\naccess,ann\naccess,bob\nlogout,ann\naccess,ann\n",
+        "violation 3 access\nviolation 5 access\nevents 5 violations 2\n",
+        1,
+    ),
+    ("no event", ACCESS, "", "events 0 violations 0\n", 0),
+    (
+        "a text that the log doesn't have",
+        "prop q : forall x . P p(x)",
+        "p,a\n",
+        "violation 1 q\nevents 1 violations 1\n",
+        1,
+    ),
+    (
+        "a quantifier in a macro",
+        "pred open(x) = exists y . o(x,y) prop m : forall y . c(y) -> P open(y)",
+        "o,a,b\nc,a\nc,b\n",
+        "violation 3 m\nevents 3 violations 1\n",
+        1,
+    ),
+    (
+        "two variables of one event",
+        "prop w : forall x . forall y . ! r(x,y)",
+        "r,b,c\n",
+        "violation 1 w\nevents 1 violations 1\n",
+        1,
+    ),
+    (
+        "each variable by itself",
+        "prop v : forall x . forall y . r(x) -> r(y)",
+        "r,b\n",
+        "violation 1 v\nevents 1 violations 1\n",
+        1,
+    ),
+    (
+        "exists and forall",
+        "prop n : exists x . go(x) prop o : forall x . go(x) -> @ P go(x)",
+        "go\ngo,a\ngo,b\ngo,a\n",
+        "violation 1 n\nviolation 2 o\nviolation 3 o\nevents 4 violations 3\n",
+        1,
+    ),
+];
+
+/// Runs of small sizes: a code that is used again, one that isn't to be had, a row that has too few nodes, and a log that is
+/// longer than its limit.
+pub const SMALL: &[(Size, Case)] = &[
+    (
+        (1, 1_000, 1_000),
+        (
+            "a code is used again",
+            ACCESS,
+            "login,ann\nlogout,ann\nlogin,bob\naccess,bob\n",
+            "events 4 violations 0\n",
+            0,
+        ),
+    ),
+    (
+        (1, 1_000, 1_000),
+        (
+            "no code is left",
+            ACCESS,
+            "login,ann\nlogin,bob\n",
+            "stopped: codes full at event 2, variable 0 (u), need 2\n",
+            5,
+        ),
+    ),
+    (
+        (1, 1_000, 1_000),
+        (
+            "codes are used again and again",
+            ACCESS,
+            "login,ann\nlogout,ann\nlogin,bob\naccess,bob\nlogout,bob\naccess,ann\n",
+            "violation 6 access\nevents 6 violations 1\n",
+            1,
+        ),
+    ),
+    (
+        (1, 1_000, 1_000),
+        (
+            "any other text needs no code",
+            "prop q : exists x . ! P p(x)",
+            "p,a\n",
+            "events 1 violations 0\n",
+            0,
+        ),
+    ),
+    (
+        (2, 2, 1_000),
+        (
+            "two nodes are too few",
+            "prop r : exists x . P p(x)",
+            "p,a\n",
+            "stopped: nodes full at event 1, subformula 3, row 1\n",
+            5,
+        ),
+    ),
+    (
+        (2, 3, 1_000),
+        (
+            "three nodes suffice",
+            "prop r : exists x . P p(x)",
+            "p,a\n",
+            "events 1 violations 0\n",
+            0,
+        ),
+    ),
+    (
+        (2, 3, 1_000),
+        (
+            "three nodes are too few for two values",
+            "prop r : exists x . P p(x)",
+            "p,a\np,b\n",
+            "stopped: nodes full at event 2, subformula 1, row 1\n",
+            5,
+        ),
+    ),
+    (
+        (2, 5, 1_000),
+        (
+            "five nodes for three values",
+            "prop r : exists x . P p(x)",
+            "p,a\np,b\np,c\n",
+            "events 3 violations 0\n",
+            0,
+        ),
+    ),
+    (
+        (1, 1_000, 1_000),
+        (
+            "lines before codes are full",
+            "prop a : false prop v : forall thing . P p(thing)",
+            "q\np,a\np,b\n",
+            "violation 1 a\nviolation 1 v\nviolation 2 a\nviolation 2 v\nstopped: codes full at event 3, variable 0 (thing), need 2\n",
+            5,
+        ),
+    ),
+    (
+        (8, 1_000, 4),
+        (
+            "a limit within the first record",
+            SINCE,
+            "go,a\nstop,a\n",
+            "stopped: log longer than 4 bytes\n",
+            4,
+        ),
+    ),
+    (
+        (8, 1_000, 11),
+        (
+            "a limit one byte before the end",
+            SINCE,
+            "go,a\nstop,a\n",
+            "stopped: log longer than 11 bytes\n",
+            4,
+        ),
+    ),
+    (
+        (8, 1_000, 12),
+        (
+            "a limit at the end",
+            SINCE,
+            "go,a\nstop,a\n",
+            "violation 2 r\nevents 2 violations 1\n",
+            1,
+        ),
+    ),
+];
+
+pub const NAME_FAULTS: &[Case] = &[
+    ("no property", "", "go\n", "stopped: no property\n", 3),
+    (
+        "a free variable",
+        "prop f : p(x)",
+        "go\n",
+        "stopped: free variable in item 0 at node 0\n",
+        3,
+    ),
+    (
+        "a macro before its definition",
+        "prop a : m(1) pred m(x) = p(x)",
+        "go\n",
+        "stopped: late macro in item 0 at node 0\n",
+        3,
+    ),
+    (
+        "a macro without its terms",
+        "pred m(x) = p(x) prop a : ! m",
+        "go\n",
+        "stopped: wrong number of macro terms in item 1 at node 1\n",
+        3,
+    ),
+    (
+        "an atom of two arities",
+        "prop a : p(1) & p",
+        "go\n",
+        "stopped: clash of arities in item 0 at node 2\n",
+        3,
+    ),
+    (
+        "a name given twice",
+        "prop a : p prop b : q prop a : r",
+        "go\n",
+        "stopped: duplicate name in item 2\n",
+        3,
+    ),
+    (
+        "too many subformulas",
+        "pred a(x) = p(x)&p(x) pred b(x) = a(x)&a(x) pred c(x) = b(x)&b(x) pred d(x) = c(x)&c(x) pred e(x) = d(x)&d(x) \
+         pred f(x) = e(x)&e(x) pred g(x) = f(x)&f(x) pred h(x) = g(x)&g(x) pred i(x) = h(x)&h(x) pred j(x) = i(x)&i(x) \
+         pred k(x) = j(x)&j(x) prop q : forall x . k(x)",
+        "go\n",
+        "stopped: too many subformulas, 6143\n",
+        3,
+    ),
+];
+
+pub const SPEC_FAULTS: &[Case] = &[
+    (
+        "an atom that isn't closed",
+        "prop p : forall x . p(x",
+        "go\n",
+        "stopped: syntax at token 9\n",
+        3,
+    ),
+    (
+        "no token",
+        "prop prop r : a ? b",
+        "go\n",
+        "stopped: no token at byte 16\n",
+        3,
+    ),
+    (
+        "a bound too large",
+        "prop r : P[<=1048575] go)",
+        "go\n",
+        "stopped: bound too large at token 6\n",
+        3,
+    ),
+];

@@ -1,0 +1,4 @@
+pub mod LastLines
+pub mod Lines
+pub mod Passing
+pub mod Verdicts

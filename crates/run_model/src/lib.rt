@@ -1,0 +1,13 @@
+//! How a run is told: how large it may be, where it stops, and how it ends.
+#![tactic(auto)]
+
+mod end;
+mod limits;
+mod stop;
+
+pub use end::{End, Outcome};
+pub use limits::Limits;
+pub use stop::{Course, Halt, LogStop, Loss, SpecStop, Stop};
+
+/// How many bytes a specification has at most.
+pub const MAX_SPEC: usize = 1_048_576;
