@@ -16,7 +16,7 @@ ghost use Rattle.subformulas.specs.Unfolded.{formula_at};
 ghost use Rattle.bdd_ops.specs.Shelf.{IsLarge};
 ghost use Rattle.monitor_model.specs.Reading.{Reads, Answers};
 ghost use Rattle.monitor_model.specs.Shape.{oldest, HasMemoryShape, HasOwnLevels, ReadsAlike};
-ghost use Rattle.monitor_model.specs.State.{Stands, memory_of, now_of, pairs_in, setting_of, verdict_at};
+ghost use Rattle.monitor_model.specs.State.{IsLive, IsMonitor, Stands, memory_of, now_of, pairs_in, setting_of, verdict_at};
 ghost use Rattle.monitor_model.specs.Ends.{time_since};
 ghost use Rattle.monitor_step.specs.Monitor.{MatchEnd, HasCodesFor, HasShape, HasSmallAtoms, step_bound, variables_of};
 ghost use Rattle.monitor_step.specs.declared.monitor.StepEnd.TheVariants.{NoMemory as TheNoMemory};
@@ -282,9 +282,12 @@ impl Monitor {
         self.now(self.plan.root(p)) == self.store.table().one()
     }
 
-    /// Whether each event so far could be judged.
+    /// Whether each event so far could be judged. With it comes what holds of every monitor, and of each that is live.
     pub fn is_live(&self) -> bool
-        ensures { result ≡ self.now.live }
+        ensures is { result ≡ self.now.live }
+        ensures sound { IsMonitor self.now }
+        ensures alive { result ≡ true → IsLive self.now }
+        ensures judged { 1 ≤ self.now.events → self.now.has_now ≡ true }
     {
         self.live
     }
