@@ -47,7 +47,7 @@ fn put_verdict<W: Sink>(
     if verdict {
         return Ok(());
     }
-    put_violation(output, out, event, name)
+    put_violation(output, out, event, name, &[])
 }
 
 /// Writes the lines of the event that the monitor took last, and tells how many these are.

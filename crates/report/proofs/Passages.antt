@@ -72,3 +72,7 @@ flushed_front a b c held bytes h f =
 pub front_flushed : (a b c : Option (List ℕ)) (p q xs : List ℕ) → Passes a b p q xs → AppendsFront b c q → AppendsFront a c (p ++ xs)
 front_flushed a b c p q xs h f =
     subst (λ (l : List ℕ). AppendsFront a c (p ++ l)) (append-nil xs) (passes_front a b c p q xs [] h (subst (λ (l : List ℕ). AppendsFront b c l) (sym (append-nil q)) f))
+
+-- one call that fails before another
+pub front_before : (a b : Option (List ℕ)) (p xs ys : List ℕ) → AppendsFront a b (p ++ xs) → AppendsFront a b (p ++ (xs ++ ys))
+front_before a b p xs ys f = subst (λ (l : List ℕ). AppendsFront a b l) (append_assoc p xs ys) (front_more a b (p ++ xs) ys f)

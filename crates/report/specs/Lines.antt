@@ -1,9 +1,12 @@
 -- The lines of the judged events, and the violations among them.
 use Rattle.std.specs.Prelude.{◌≡◌, ℕ, ◌+◌, ◌/◌, ◌%◌, List, [], ◌∷◌, ◌++◌, ◌||◌, nat_eq, nat_lt}
-use Rattle.std.specs.Prelude.{Option, Some, None, codes, decimal, if◌then◌else◌}
+use Rattle.std.specs.Prelude.{codes, decimal, if◌then◌else◌}
 use Rattle.std.specs.List.{flat_map}
 use Rattle.qtl_syntax.specs.Tree.{Text}
-use Rattle.report.specs.Verdicts.{Shown, Verdict, True, False}
+use Rattle.report.specs.declared.shown.Shown.{Shown}
+use Rattle.report.specs.declared.shown.Value.{Value}
+use Rattle.report.specs.declared.shown.Value.TheVariants.{Any, Known}
+use Rattle.report.specs.Verdicts.{Verdict, True, False}
 
 -- a digit from 0 to f
 abbrev pub hex_digit : ℕ → ℕ
@@ -17,9 +20,10 @@ quoted_byte b =
     ++ (hex_digit (b / 16) ∷ hex_digit (b % 16) ∷ [])
     else b ∷ []
 
-abbrev pub value_text : Option Text → Text
-value_text None = codes "*"
-value_text (Some text) = codes "\"" ++ (flat_map quoted_byte text ++ codes "\"")
+-- what is shown for a variable: a star for any text that the log doesn't have, or a text in quotes
+abbrev pub value_text : Value → Text
+value_text Any = codes "*"
+value_text (Known text) = codes "\"" ++ (flat_map quoted_byte text ++ codes "\"")
 
 -- a witness, each variable behind a space
 abbrev pub witness_text : List Shown → Text
@@ -32,6 +36,11 @@ abbrev pub violation_line : ℕ → Text → List Shown → Text
 violation_line event name witness =
     codes "violation "
     ++ (decimal event ++ (codes " " ++ (name ++ (witness_text witness ++ codes "\n"))))
+
+-- the property of this name is true at this event
+abbrev pub holds_line : ℕ → Text → Text
+holds_line event name =
+    codes "holds " ++ (decimal event ++ (codes " " ++ (name ++ codes "\n")))
 
 -- what a verdict writes
 abbrev pub verdict_text : ℕ → Text → Verdict → Text

@@ -1,12 +1,6 @@
 -- The verdicts on the properties of a specification, with a witness for each false one.
-use Rattle.std.specs.Prelude.{ℕ, ◌+◌, List, [], ◌∷◌, Option}
-use Rattle.qtl_syntax.specs.Tree.{Text}
-
--- what a witness shows for a variable: a text, or none where any text that the log doesn't have
--- does
-pub record Shown : Type 0 where
-  pub name : Text
-  pub value : Option Text
+use Rattle.std.specs.Prelude.{ℕ, ◌+◌, List, [], ◌∷◌}
+use Rattle.report.specs.declared.shown.Shown.{Shown}
 
 pub data Verdict : Type 0 where
   True : Verdict

@@ -1,8 +1,8 @@
 //! Lines against their bytes, and how they pass the buffer.
 use crate::{
-    Output, Which, put_codes_full, put_end, put_log_fault, put_long_log, put_long_spec,
-    put_name_fault, put_nodes_full, put_spec_fault, put_unopened, put_unread, put_usage,
-    put_violation,
+    Output, Shown, Value, Which, put_codes_full, put_end, put_holds, put_log_fault, put_long_log,
+    put_long_spec, put_name_fault, put_nodes_full, put_spec_fault, put_unopened, put_unread,
+    put_usage, put_violation,
 };
 use log_reader::LogFault;
 use mon_base::{Failed, MemSink, NoMemory};
@@ -15,6 +15,7 @@ use wellformed::NameFault;
 #[derive(Clone, Copy)]
 enum Line {
     Violation(u64, &'static str),
+    Holds(u64, &'static str),
     End(u64, u64),
     Usage,
     Unopened(Which),
@@ -38,7 +39,11 @@ fn put_any(
     Ok(match line {
         Line::Violation(event, name) => {
             let name = Text::from_bytes(alloc, name.as_bytes())?;
-            put_violation(output, out, event, &name)
+            put_violation(output, out, event, &name, &[])
+        }
+        Line::Holds(event, name) => {
+            let name = Text::from_bytes(alloc, name.as_bytes())?;
+            put_holds(output, out, event, &name)
         }
         Line::End(events, violations) => put_end(output, out, events, violations),
         Line::Usage => put_usage(output, out),
@@ -59,6 +64,8 @@ fn put_any(
 #[rattlefmt::skip]
 const LINES: &[(Line, &str)] = &[
     (Line::Violation(6, "closed"), "violation 6 closed\n"),
+    (Line::Holds(1, "opened"), "holds 1 opened\n"),
+    (Line::Holds(18_446_744_073_709_551_615, "p"), "holds 18446744073709551615 p\n"),
     (Line::End(11, 2), "events 11 violations 2\n"),
     (Line::End(0, 0), "events 0 violations 0\n"),
     (Line::End(18_446_744_073_709_551_615, 4_096), "events 18446744073709551615 violations 4096\n"),
@@ -113,56 +120,133 @@ fn each_line_has_its_bytes(rt: HostRuntime) -> Result<(), Fail> {
     Ok(())
 }
 
-/// A name of so many bytes.
-fn long_name(alloc: Global, length: usize) -> Result<Vec<u8>, NoMemory> {
-    let mut name = Vec::new(alloc);
-    for _ in 0..length {
-        name.push(b'n')?;
+/// A variable's name, with the text that is shown for it, or none for any text.
+type Row = (&'static str, Option<&'static [u8]>);
+
+/// What a witness shows, and the line that tells it.
+#[rattlefmt::skip]
+const WITNESSES: &[(&[Row], &[u8])] = &[
+    (&[], b"violation 6 access\n"),
+    (&[("user", Some(b"ann"))], b"violation 6 access user=\"ann\"\n"),
+    (&[("user", None)], b"violation 6 access user=*\n"),
+    (&[("user", Some(b"ann")), ("file", None)], b"violation 6 access user=\"ann\" file=*\n"),
+    (&[("f", None), ("u", Some(b"*"))], b"violation 6 access f=* u=\"*\"\n"),
+    (&[("x", Some(b""))], b"violation 6 access x=\"\"\n"),
+    (&[("x", Some(b"a b=c"))], b"violation 6 access x=\"a b=c\"\n"),
+    (&[("x", Some(b"a\"b"))], b"violation 6 access x=\"a\\\"b\"\n"),
+    (&[("x", Some(b"\\"))], b"violation 6 access x=\"\\\\\"\n"),
+    (&[("x", Some(b"\"\\\""))], b"violation 6 access x=\"\\\"\\\\\\\"\"\n"),
+    (&[("x", Some(b"tab\t"))], b"violation 6 access x=\"tab\\x09\"\n"),
+    (&[("x", Some(b"\nline"))], b"violation 6 access x=\"\\x0aline\"\n"),
+    (&[("x", Some(b"\x00\x1f \x7e"))], b"violation 6 access x=\"\\x00\\x1f ~\"\n"),
+    (&[("x", Some(b"\x7f"))], b"violation 6 access x=\"\\x7f\"\n"),
+    (&[("x", Some(b"\x80\xc8\xff"))], b"violation 6 access x=\"\x80\xc8\xff\"\n"),
+];
+
+/// What a witness of these rows shows.
+fn witness_of(alloc: Global, rows: &[Row]) -> Result<Vec<Shown>, NoMemory> {
+    let mut witness = Vec::new(alloc);
+    for (name, text) in rows {
+        let name = Text::from_bytes(alloc, name.as_bytes())?;
+        let value = match text {
+            Some(text) => Value::Known(Text::from_bytes(alloc, text)?),
+            None => Value::Any,
+        };
+        witness.push(Shown { name, value })?;
     }
-    Ok(name)
+    Ok(witness)
 }
 
-/// The bytes of the lines of these events, of which a property of this name is false at each.
-fn lines_of(alloc: Global, events: u64, name: &[u8]) -> Result<Vec<u8>, Fail> {
+#[test]
+fn each_witness_has_its_bytes(rt: HostRuntime) -> Result<(), Fail> {
+    let alloc = rt.alloc();
+    let name = Text::from_bytes(alloc, b"access")?;
+    let mut output = Output::open(alloc)?;
+    for (rows, wanted) in WITNESSES {
+        let witness = witness_of(alloc, rows)?;
+        let mut out = MemSink::open(alloc, 1_000)?;
+        assert_eq!(rt;
+            put_violation(&mut output, &mut out, 6, &name, witness.as_slice()),
+            Ok(())
+        );
+        assert_eq!(rt; output.flush(&mut out), Ok(()));
+        assert_eq!(rt; out.bytes(), *wanted);
+    }
+    Ok(())
+}
+
+/// How long the name of a property is, how long the text that is shown for a variable, and how many
+/// lines with them there are.
+#[derive(Clone, Copy)]
+struct Lengths {
+    name: usize,
+    text: usize,
+    lines: u64,
+}
+
+/// Short lines that are more together than the buffer holds, lines that just fit, lines that do
+/// not, by their name or by their text, and several of these.
+#[rattlefmt::skip]
+const LENGTHS: &[Lengths] = &[
+    Lengths { name: 5, text: 0, lines: 6_000 },
+    Lengths { name: 65_518, text: 0, lines: 1 },
+    Lengths { name: 65_519, text: 0, lines: 1 },
+    Lengths { name: 70_000, text: 0, lines: 3 },
+    Lengths { name: 40_000, text: 0, lines: 4 },
+    Lengths { name: 5, text: 65_448, lines: 1 },
+    Lengths { name: 5, text: 65_449, lines: 1 },
+    Lengths { name: 5, text: 70_000, lines: 3 },
+    Lengths { name: 5, text: 40_000, lines: 4 },
+    Lengths { name: 30_000, text: 140_000, lines: 1 },
+];
+
+/// A name, a text, and the bytes of the lines that have them, at the events from 0 on.
+#[derive(Drop)]
+struct Long {
+    name: Text,
+    witness: Vec<Shown>,
+    lines: Vec<u8>,
+}
+
+/// A text of so many bytes, with these in place of each thousandth.
+fn long_text(alloc: Global, length: usize, thousandth: &[u8]) -> Result<Vec<u8>, NoMemory> {
+    let mut text = Vec::new(alloc);
+    for at in 0..length {
+        let part = if at % 1_000 == 999 { thousandth } else { b"t" };
+        text.extend_from_slice(part)?;
+    }
+    Ok(text)
+}
+
+/// The bytes of the lines of these events, each with this name and with this text between quotes.
+fn lines_of(alloc: Global, events: u64, name: &[u8], inside: &[u8]) -> Result<Vec<u8>, Fail> {
     let mut lines = Vec::new(alloc);
     for event in 0..events {
         let head = format!(in alloc; "violation {event} ")?;
         lines.extend_from_slice(head.as_bytes())?;
         lines.extend_from_slice(name)?;
-        lines.push(b'\n')?;
+        lines.extend_from_slice(b" x=\"")?;
+        lines.extend_from_slice(inside)?;
+        lines.extend_from_slice(b"\"\n")?;
     }
     Ok(lines)
 }
 
-/// How long a name is, and how many lines with it there are: short ones that are more together than
-/// the buffer holds, one that just fits, one that does not, and several of these.
-const LENGTHS: &[(usize, u64)] = &[
-    (5, 6_000),
-    (65_523, 1),
-    (65_524, 1),
-    (70_000, 3),
-    (40_000, 4),
-];
-
-#[test]
-fn long_lines_and_many_pass_in_order(rt: HostRuntime) -> Result<(), Fail> {
-    let alloc = rt.alloc();
-    for (length, count) in LENGTHS {
-        let bytes = long_name(alloc, *length)?;
-        let name = Text::from_bytes(alloc, bytes.as_slice())?;
-        let wanted = lines_of(alloc, *count, bytes.as_slice())?;
-        let mut output = Output::open(alloc)?;
-        let mut out = MemSink::open(alloc, 300_000)?;
-        for event in 0..*count {
-            assert_eq!(rt; put_violation(&mut output, &mut out, event, &name), Ok(()));
-        }
-        assert_eq!(rt; output.flush(&mut out), Ok(()));
-        assert!(rt;
-            out.bytes() == wanted.as_slice(),
-            "{count} lines with a name of {length} bytes"
-        );
-    }
-    Ok(())
+/// What has these lengths. Each thousandth byte of the text is a quote.
+fn long_lines(alloc: Global, lengths: Lengths) -> Result<Long, Fail> {
+    let name = long_text(alloc, lengths.name, b"n")?;
+    let text = long_text(alloc, lengths.text, b"\"")?;
+    let inside = long_text(alloc, lengths.text, b"\\\"")?;
+    let mut witness = Vec::new(alloc);
+    witness.push(Shown {
+        name: Text::from_bytes(alloc, b"x")?,
+        value: Value::Known(Text::from_bytes(alloc, text.as_slice())?),
+    })?;
+    Ok(Long {
+        name: Text::from_bytes(alloc, name.as_slice())?,
+        witness,
+        lines: lines_of(alloc, lengths.lines, name.as_slice(), inside.as_slice())?,
+    })
 }
 
 /// Puts the lines of these events, up to the first write that fails.
@@ -170,32 +254,60 @@ fn put_lines(
     output: &mut Output,
     out: &mut MemSink,
     count: u64,
-    name: &Text,
+    long: &Long,
 ) -> Result<(), Failed> {
     for event in 0..count {
-        put_violation(output, out, event, name)?;
+        put_violation(output, out, event, &long.name, long.witness.as_slice())?;
     }
     output.flush(out)
 }
 
 #[test]
+fn long_lines_and_many_pass_in_order(rt: HostRuntime) -> Result<(), Fail> {
+    let alloc = rt.alloc();
+    for lengths in LENGTHS {
+        let long = long_lines(alloc, *lengths)?;
+        let mut output = Output::open(alloc)?;
+        let mut out = MemSink::open(alloc, 300_000)?;
+        assert_eq!(rt;
+            put_lines(&mut output, &mut out, lengths.lines, &long),
+            Ok(())
+        );
+        assert!(rt;
+            out.bytes() == long.lines.as_slice(),
+            "{} lines with a name of {} bytes and a text of {}",
+            lengths.lines,
+            lengths.name,
+            lengths.text
+        );
+    }
+    Ok(())
+}
+
+#[test]
 fn a_full_sink_keeps_a_front_and_fails(rt: HostRuntime) -> Result<(), Fail> {
     let alloc = rt.alloc();
-    for (length, count) in LENGTHS {
-        let bytes = long_name(alloc, *length)?;
-        let name = Text::from_bytes(alloc, bytes.as_slice())?;
-        let wanted = lines_of(alloc, *count, bytes.as_slice())?;
+    for lengths in LENGTHS {
+        let long = long_lines(alloc, *lengths)?;
         for room in [0usize, 1, 12, 65_535] {
             let mut output = Output::open(alloc)?;
             let mut out = MemSink::open(alloc, room)?;
             assert_eq!(rt;
-                put_lines(&mut output, &mut out, *count, &name),
+                put_lines(&mut output, &mut out, lengths.lines, &long),
                 Err(Failed)
             );
-            assert_eq!(rt; out.bytes().len(), room, "{length}");
+            assert_eq!(rt;
+                out.bytes().len(),
+                room,
+                "{}, {}",
+                lengths.name,
+                lengths.text
+            );
             assert!(rt;
-                wanted.as_slice().starts_with(out.bytes()),
-                "{length}, {room}"
+                long.lines.as_slice().starts_with(out.bytes()),
+                "{}, {}, {room}",
+                lengths.name,
+                lengths.text
             );
         }
     }

@@ -6,7 +6,8 @@ use Rattle.qtl_truth.specs.declared.event.Event.{Event}
 use Rattle.qtl_truth.specs.Truth.{Holds}
 use Rattle.wellformed.specs.Expansion.{expanded_props}
 use Rattle.wellformed.specs.Timed.{has_timed}
-use Rattle.report.specs.Verdicts.{Shown, Verdict, True, False}
+use Rattle.report.specs.declared.shown.Shown.{Shown}
+use Rattle.report.specs.Verdicts.{Verdict, True, False}
 
 -- a property, with the items before it, the latest first: its macros are among them
 pub record Property : Type 0 where
