@@ -1,0 +1,5 @@
+pub mod Along
+pub mod Coded
+pub mod Failing
+pub mod Holding
+pub mod Over

@@ -1,0 +1,5 @@
+pub mod Finding
+pub mod Laws
+pub mod Least
+pub mod Searching
+pub mod Turns
