@@ -1,3 +1,5 @@
+pub mod OneWitness
 pub mod Passages
 pub mod Quoting
 pub mod Showing
+pub mod Staying

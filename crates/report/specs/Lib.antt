@@ -1,4 +1,5 @@
 pub mod LastLines
+pub mod Laws
 pub mod Lines
 pub mod Passing
 pub mod Verdicts

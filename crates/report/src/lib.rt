@@ -20,7 +20,7 @@ pub use counts::put_end;
 pub use file_lines::{put_unopened, put_unread, put_usage};
 pub use full_lines::{put_codes_full, put_nodes_full};
 pub use holds::put_holds;
-pub use laws::report_lists_violations;
+pub use laws::{one_witness, report_lists_violations, witness_stays};
 pub use log_lines::{put_log_fault, put_long_log};
 pub use output::Output;
 pub use shown::{Shown, Value};
