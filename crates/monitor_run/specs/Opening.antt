@@ -150,7 +150,7 @@ pub record LogHalted (job : Job) (texts : List (Text × Text)) (items : List Ite
   pub rows : List (List Verdict)
   pub handed : ℕ
   pub stands : StandsTo job items (texts_in texts (log_names job)) uses judged handed halt
-  pub right : AreVerdicts judged (properties items) rows
+  pub right : AreVerdicts judged items rows
   pub counted : IsCounted halt judge (length judged) (false_count rows)
   pub lines : LinesPass halt sent0 sent1 held (report_lines 1 (names (properties items)) rows)
   pub cost : Costs (Some job) items handed before after

@@ -135,7 +135,7 @@ pub record Halted (limits : Limits) (items : List Item) (all : Text)
   pub walks : WalksTo (ComesAt limits items) (known (form_in items) limits.log taken) judged halt
   pub handed_is : IsHanded halt (length judged) handed
       (length (known (form_in items) limits.log taken).events)
-  pub right : AreVerdicts judged (properties items) rows
+  pub right : AreVerdicts judged items rows
   pub counted : IsCounted halt judge (length judged) (false_count rows)
   pub lines : LinesPass halt sent0 sent1 held (report_lines 1 (names (properties items)) rows)
 

@@ -7,17 +7,19 @@ use Rattle.qtl_truth.specs.declared.event.Event.{Event}
 use Rattle.wellformed.specs.Kept.{AreKept}
 use Rattle.subformulas.specs.Table as table
 use Rattle.subformulas.specs.Unfolded.{props_at}
+use Rattle.subformulas.specs.declared.table.PlanProp.{PlanProp}
 use Rattle.monitor_model.specs.State as monitor
 use Rattle.report.specs.Verdicts.{Verdict, True, False, false_count}
-use Rattle.run_model.specs.Limits.{ComesAt, table_in, variables_in}
-use Rattle.run_model.specs.Verdicts.{properties, AreVerdicts}
+use Rattle.run_model.specs.Limits.{ComesAt, plan_in, table_in, variables_in}
+use Rattle.run_model.specs.Verdicts.{AreVerdicts}
 use Rattle.run_model.specs.Walk.{AllFit}
+use Rattle.witness.specs.Finding.{witness_of}
 use Rattle.monitor_run.specs.declared.judge.Judge.{Judge}
 use Rattle.run_model.specs.declared.limits.Limits.{Limits}
 
--- the verdict that a property's truth is; a false one shows no values yet
-abbrev pub verdict_of : Bool → Verdict
-verdict_of holds = if holds then True else False []
+-- the monitor's verdict on a property, where it is false with what is found for it
+abbrev pub verdict_of : monitor.State → PlanProp → Verdict
+verdict_of m q = if monitor.verdict_at m q.root then True else False (witness_of m q.root)
 
 -- the names of the monitor's properties
 abbrev pub names_in : monitor.State → List Text
@@ -25,7 +27,7 @@ names_in m = map (λ q. q.name) m.plan.props
 
 -- and the verdicts on them at the last event
 abbrev pub row_of : monitor.State → List Verdict
-row_of m = map (λ q. verdict_of (monitor.verdict_at m q.root)) m.plan.props
+row_of m = map (verdict_of m) m.plan.props
 
 -- a row of the plan is a timed operator
 abbrev pub has_times : table.Table → Bool
@@ -36,6 +38,7 @@ pub record IsPlanOf (items : List Item) (plan : table.Table) : Type 0 where
   pub sound : table.IsSound plan
   pub variables : plan.variables ≡ variables_in items
   pub subs : plan.subs ≡ table_in items
+  pub props : plan.props ≡ (plan_in items).props
   pub kept : (log : List Event) (nu : List Text) → length plan.variables ≤ length nu →
       AreKept log nu [] items (props_at plan.subs plan.props)
 
@@ -45,9 +48,11 @@ pub record HasSizes (limits : Limits) (m : monitor.State) : Type 0 where
   pub nodes : m.shelf.table.room ≡ limits.nodes
   pub cache : m.shelf.memo.entries ≡ limits.cache
 
--- the monitor stands for these events, which are a log
+-- the monitor stands for these events, which are a log, and is as each live monitor is
 pub record StandsFor (m : monitor.State) (log : List Event) : Type 0 where
   pub is_log : IsLog log
+  pub sound : monitor.IsMonitor m
+  pub live : monitor.IsLive m
   pub stands : monitor.Stands m log
   pub judged : 1 ≤ length log → m.has_now ≡ true
 
@@ -59,7 +64,7 @@ pub record HasJudged (limits : Limits) (items : List Item) (log : List Event)
   pub sizes : HasSizes limits judge.monitor
   pub stands : StandsFor judge.monitor log
   pub fits : AllFit (ComesAt limits items) log
-  pub right : AreVerdicts log (properties items) rows
+  pub right : AreVerdicts log items rows
   pub events : judge.events ≡ length log
   pub violations : judge.violations ≡ false_count rows
 

@@ -1,84 +1,89 @@
 //! The judge of the properties: it takes the events one by one, keeps none, and writes a line for each false verdict.
-ghost use Rattle.std.specs.Prelude.{◌≡◌, ◌+◌, ◌*◌, ◌^◌, ◌<◌, ◌≤◌, ◌++◌, List, length, true, IfErr, OnOk, OnErr, IfOk};
+ghost use Rattle.std.specs.Prelude.{◌≡◌, ◌+◌, ◌*◌, ◌^◌, ◌<◌, ◌≤◌, ◌++◌, List, length, map, true, IfErr, OnOk, OnErr, IfOk};
 ghost use Rattle.std.specs.List.{AllByRecursion};
 ghost use Rattle.bdd_ops.specs.Shelf.{IsLarge};
 ghost use Rattle.mon_base.specs.Causes.{HasCause, Rose};
 ghost use Rattle.mon_base.specs.Told.{AppendsFront};
-ghost use Rattle.monitor_step.specs.Monitor.{step_bound};
 ghost use Rattle.qtl_truth.specs.Truth.{IsEvent, IsText};
 ghost use Rattle.qtl_truth.specs.declared.event.Event.{Event as TheEvent};
-ghost use Rattle.report.specs.Lines.{event_lines, verdict_text};
 ghost use Rattle.report.specs.Passing.{Passes};
-ghost use Rattle.report.specs.Verdicts.{false_in};
-ghost use Rattle.monitor_run.specs.Judging.{Judges, WritesEvent, halt_of_step};
+ghost use Rattle.monitor_run.specs.Judging.{Judges, WritesEvent, as_false_one, false_lines, false_ones, halt_of_step, judge_bound, witness_bound};
 ghost use Rattle.monitor_run.specs.Reading.{HasCutCause, HasReadCause};
-ghost use Rattle.monitor_run.specs.Standing.{IsReady, KeepsPlan, StandsFor, names_in, row_of, verdict_of};
+ghost use Rattle.monitor_run.specs.Standing.{IsReady, KeepsPlan, StandsFor, row_of};
 
-use mon_base::{Failed, Sink, Steps};
+use mon_base::{Failed, NoMemory, Sink, Steps};
 use monitor_step::{Monitor, StepEnd};
 use qtl_syntax::Text;
 use qtl_truth::Event;
-use report::{Output, put_violation};
+use report::{Output, Shown, put_violation};
 use run_model::{Halt, LogStop, Loss};
+use std::alloc::Global;
 use std::sync::ledger::Ledger;
+use subformulas::Plan;
+use witness::find;
+
+/// A false verdict on a property, counted from 0, and its witness.
+#[derive(Drop)]
+pub struct Violation {
+    pub property: u32,
+    pub witness: Vec<Shown>,
+}
 
 /// The monitor of the properties, and what was counted so far.
 #[derive(Drop)]
 pub struct Judge {
+    pub alloc: Global,
     pub monitor: Monitor,
     pub events: u64,
     pub violations: u64,
 }
 
-/// Writes what the verdict on the property of this name writes at this event.
-fn put_verdict<W: Sink>(
-    output: &mut Output,
-    out: &mut W,
-    event: u64,
-    name: &Text,
-    verdict: bool,
-) -> Result<(), Failed>
-    ensures ok { OnOk result (Passes (W.written out.old) (W.written out.new) output.old output.new
-        (verdict_text event name.now (verdict_of verdict))) }
-    ensures err { OnErr result (AppendsFront (W.written out.old) (W.written out.new)
-        (output.old ++ verdict_text event name.now (verdict_of verdict))) }
-    ensures cause { HasCause (W.faults out.old) (W.faults out.new) result }
-{
-    if verdict {
-        return Ok(());
-    }
-    put_violation(output, out, event, name, &[])
-}
-
-/// Writes the lines of the event that the monitor took last, and tells how many these are.
-fn put_verdicts<W: Sink>(
-    output: &mut Output,
-    out: &mut W,
-    event: u64,
+/// The violations at the event that the monitor took last, in order of the properties.
+fn find_violations<L: Ledger>(
+    alloc: Global,
     monitor: &Monitor,
-) -> Result<u64, Failed>
+    steps: &mut Steps<L>,
+) -> Result<Vec<Violation>, NoMemory>
     requires live { monitor.now.live ≡ true }
     requires some { 1 ≤ monitor.now.events }
-    ensures ok { OnOk result (Passes (W.written out.old) (W.written out.new) output.old output.new
-        (event_lines event (names_in monitor.now) (row_of monitor.now))) }
-    ensures count { IfOk result (λ count. count ≡ false_in (row_of monitor.now)) }
-    ensures few { IfOk result (λ count. count ≤ 4096) }
-    ensures err { OnErr result (AppendsFront (W.written out.old) (W.written out.new)
-        (output.old ++ event_lines event (names_in monitor.now) (row_of monitor.now))) }
-    ensures cause { HasCause (W.faults out.old) (W.faults out.new) result }
+    ensures are { IfOk result (λ found. map as_false_one found.items ≡ false_ones 0 (row_of monitor.now)) }
+    ensures cost { steps.new ≤ steps.old + witness_bound monitor.now }
 {
     let plan = monitor.plan();
-    // A law, for the clause `few`: each plan has at most 4,096 properties.
-    let _rows = plan.count();
-    let mut count: u64 = 0;
+    let mut found = Vec::new(alloc);
     for p in 0..plan.props() {
-        let verdict = monitor.verdict(p);
-        put_verdict(output, out, event, plan.prop_name(p), verdict)?;
-        if !verdict {
-            count += 1;
+        if !monitor.verdict(p) {
+            let witness = find(alloc, monitor, p, steps)?;
+            found.push(Violation {
+                property: p,
+                witness,
+            })?;
         }
     }
-    Ok(count)
+    Ok(found)
+}
+
+/// Writes the lines of these violations at this event.
+fn put_violations<W: Sink>(
+    output: &mut Output,
+    out: &mut W,
+    event: u64,
+    plan: &Plan,
+    violations: &[Violation],
+) -> Result<(), Failed>
+    requires known { AllByRecursion (λ v. v.property < length plan.now.props) violations.now }
+    ensures ok { OnOk result (Passes (W.written out.old) (W.written out.new) output.old output.new
+        (false_lines event (map (λ q. q.name) plan.now.props) (map as_false_one violations.now))) }
+    ensures err { OnErr result (AppendsFront (W.written out.old) (W.written out.new)
+        (output.old ++ false_lines event (map (λ q. q.name) plan.now.props) (map as_false_one violations.now))) }
+    ensures cause { HasCause (W.faults out.old) (W.faults out.new) result }
+{
+    let Some((first, later)) = violations.split_first() else {
+        return Ok(());
+    };
+    let name = plan.prop_name(first.property);
+    put_violation(output, out, event, name, first.witness.as_slice())?;
+    put_violations(output, out, event, plan, later)
 }
 
 /// How a run gives up whose event of this number the monitor refuses.
@@ -146,17 +151,26 @@ pub fn judge_event<W: Sink, L: Ledger>(
     ensures no_read { IfErr result (λ halt. HasReadCause ⊥ halt) }
     ensures out_later { W.faults out.old ≤ W.faults out.new }
     ensures cost { IsLarge judge.old.monitor.shelf →
-        steps.new ≤ steps.old + step_bound judge.old.monitor }
+        steps.new ≤ steps.old + judge_bound judge.old.monitor }
 {
     is_event(event);
     match judge.monitor.step(event, steps) {
         Ok(()) => {}
         Err(end) => return Err(halt_of_step(judge.events + 1, end)),
     }
+    // Laws, for the clauses `judged` and `ready`: what holds of each live monitor, and that a plan has at most 4,096
+    // properties.
+    let _live = judge.monitor.is_live();
+    let _rows = judge.monitor.plan().count();
+    let violations = match find_violations(judge.alloc, &judge.monitor, steps) {
+        Ok(violations) => violations,
+        Err(_) => return Err(Halt::Lost(Loss::Starved)),
+    };
     judge.events += 1;
-    match put_verdicts(output, out, judge.events, &judge.monitor) {
-        Ok(count) => {
-            judge.violations += count;
+    let plan = judge.monitor.plan();
+    match put_violations(output, out, judge.events, plan, violations.as_slice()) {
+        Ok(()) => {
+            judge.violations += violations.len() as u64;
             Ok(())
         }
         Err(_) => Err(Halt::Lost(Loss::Cut)),

@@ -3,10 +3,9 @@ ghost use Rattle.std.specs.Prelude.{◌≡◌, ◌+◌, ◌<◌, ◌≤◌, ℕ,
 ghost use Rattle.std.specs.Io.KnownBytes.{Appends, Consumes, IsAtEnd};
 ghost use Rattle.bdd_ops.specs.Shelf.{IsLarge};
 ghost use Rattle.mon_base.specs.Causes.{Rose};
-ghost use Rattle.monitor_step.specs.Monitor.{step_bound};
 ghost use Rattle.qtl_syntax.specs.Tree as tree;
 ghost use Rattle.log_reader.specs.Standing.{Stands, fresh_reading};
-ghost use Rattle.monitor_run.specs.Judging.{Spends};
+ghost use Rattle.monitor_run.specs.Judging.{Spends, judge_bound};
 ghost use Rattle.monitor_run.specs.Reading.{Halted, HasCutCause, HasReadCause, IsFed, IsFedWithin, IsUnread, ReadsAll};
 ghost use Rattle.monitor_run.specs.Standing.{HasJudged, IsReady, KeepsPlan, has_times};
 ghost use Rattle.run_model.specs.declared.limits.Limits as declared;
@@ -122,7 +121,7 @@ fn take_turn<S: Source, W: Sink, L: Ledger>(
     ensures later { S.faults source.old ≤ S.faults source.new }
     ensures out_later { W.faults out.old ≤ W.faults out.new }
     ensures cost { IsLarge judge.old.monitor.shelf →
-        Spends (step_bound judge.old.monitor) judge.old.events reader.new.given steps.old
+        Spends (judge_bound judge.old.monitor) judge.old.events reader.new.given steps.old
         steps.new }
     ensures grown { reader.old.given ≤ reader.new.given }
     ensures idle { reader.new.given ≡ reader.old.given → steps.new ≡ steps.old }
@@ -164,7 +163,7 @@ fn end_log<W: Sink, L: Ledger>(
     ensures no_read { HasReadCause ⊥ result }
     ensures out_later { W.faults out.old ≤ W.faults out.new }
     ensures cost { IsLarge judge.old.monitor.shelf →
-        Spends (step_bound judge.old.monitor) judge.old.events reader.new.given steps.old
+        Spends (judge_bound judge.old.monitor) judge.old.events reader.new.given steps.old
         steps.new }
     ensures grown { reader.old.given ≤ reader.new.given }
     ensures idle { reader.new.given ≡ reader.old.given → steps.new ≡ steps.old }
@@ -205,7 +204,7 @@ fn past_limit<S: Source, W: Sink, L: Ledger>(
     ensures later { S.faults source.old ≤ S.faults source.new }
     ensures out_later { W.faults out.old ≤ W.faults out.new }
     ensures cost { IsLarge judge.old.monitor.shelf →
-        Spends (step_bound judge.old.monitor) judge.old.events reader.new.given steps.old
+        Spends (judge_bound judge.old.monitor) judge.old.events reader.new.given steps.old
         steps.new }
     ensures grown { reader.old.given ≤ reader.new.given }
     ensures idle { reader.new.given ≡ reader.old.given → steps.new ≡ steps.old }
@@ -248,7 +247,7 @@ pub fn read_log<S: Source, W: Sink, L: Ledger>(
     ensures later { S.faults source.old ≤ S.faults source.new }
     ensures out_later { W.faults out.old ≤ W.faults out.new }
     ensures cost { IsLarge judge.old.monitor.shelf →
-        Spends (step_bound judge.old.monitor) judge.old.events reader.new.given steps.old
+        Spends (judge_bound judge.old.monitor) judge.old.events reader.new.given steps.old
         steps.new }
     ensures idle { reader.new.given ≡ 0 → steps.new ≡ steps.old }
 {

@@ -2,9 +2,8 @@
 ghost use Rattle.std.specs.Prelude.{◌≡◌, ◌≤◌, ℕ, Bool, List, Option, OnOk, IfErr};
 ghost use Rattle.bdd_ops.specs.Shelf.{IsLarge};
 ghost use Rattle.mon_base.specs.Causes.{Rose};
-ghost use Rattle.monitor_step.specs.Monitor.{step_bound};
 ghost use Rattle.qtl_syntax.specs.Tree as tree;
-ghost use Rattle.monitor_run.specs.Judging.{Spends};
+ghost use Rattle.monitor_run.specs.Judging.{Spends, judge_bound};
 ghost use Rattle.monitor_run.specs.Opening.{halt_of_record};
 ghost use Rattle.monitor_run.specs.Reading.{Halted, HasCutCause, HasReadCause, IsFed, IsFedWithin, Reads, ReadsAll};
 ghost use Rattle.monitor_run.specs.Standing.{IsReady, KeepsPlan};
@@ -62,7 +61,7 @@ pub fn judge_fed<W: Sink, L: Ledger>(
     ensures no_read { IfErr result (λ halt. HasReadCause ⊥ halt) }
     ensures out_later { W.faults out.old ≤ W.faults out.new }
     ensures cost { IsLarge judge.old.monitor.shelf →
-        Spends (step_bound judge.old.monitor) judge.old.events reader.new.given steps.old
+        Spends (judge_bound judge.old.monitor) judge.old.events reader.new.given steps.old
         steps.new }
     ensures grown { reader.old.given ≤ reader.new.given }
     ensures idle { reader.new.given ≡ reader.old.given → steps.new ≡ steps.old }

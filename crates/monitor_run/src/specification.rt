@@ -159,11 +159,16 @@ fn judge_in(alloc: Global, text: &[u8], limits: Limits) -> Result<Judge, Halt<Sp
     // A law, for what holds of each plan.
     let _rows = plan.count();
     match Monitor::open(alloc, plan, sizes) {
-        Ok(monitor) => Ok(Judge {
-            monitor,
-            events: 0,
-            violations: 0,
-        }),
+        Ok(monitor) => {
+            // A law, for what holds of each live monitor.
+            let _live = monitor.is_live();
+            Ok(Judge {
+                alloc,
+                monitor,
+                events: 0,
+                violations: 0,
+            })
+        }
         Err(_) => Err(Halt::Lost(Loss::Starved)),
     }
 }

@@ -6,12 +6,15 @@ use Rattle.qtl_syntax.specs.Tree.{Text, Item}
 use Rattle.qtl_truth.specs.declared.event.Event.{Event}
 use Rattle.wellformed.specs.Expansion.{expanded_props, props_variables}
 use Rattle.wellformed.specs.declared.core_formula.Variable.{Variable}
-use Rattle.subformulas.specs.Numbering.{all_numbered}
+use Rattle.subformulas.specs.Numbering.{all_numbered, roots}
 use Rattle.subformulas.specs.OperationRows.{rows_of}
+use Rattle.subformulas.specs.Table.{Table}
+use Rattle.subformulas.specs.Unfolded.{formula_at}
 use Rattle.subformulas.specs.declared.table.Sub.{Sub}
 use Rattle.monitor_model.specs.Ends as event_end
 use Rattle.monitor_model.specs.Setting.{Setting}
 use Rattle.monitor_model.specs.State.{temporal_count}
+use Rattle.report.specs.Witness.{chain}
 use Rattle.run_model.specs.declared.limits.Limits.{Limits}
 
 -- the limits are lawful
@@ -35,6 +38,14 @@ variables_in items = props_variables [] 0 items
 abbrev pub table_in : List Item → List Sub
 table_in items = all_numbered 0 (expanded_props [] 0 items)
 
+-- the plan of a specification: these, and its properties with the numbers of their formulas
+abbrev pub plan_in : List Item → Table
+plan_in items = record {
+  variables = variables_in items;
+  subs = table_in items;
+  props = roots 0 (expanded_props [] 0 items);
+}
+
 -- the name of variable x
 abbrev pub name_in : List Variable → ℕ → Option Text
 name_in variables x = option_map (λ v. v.name) (slice_get variables x)
@@ -57,11 +68,22 @@ ComesAt limits items log e end = event_end.IsEnd (setting_in limits items) log (
 abbrev pub IsAmple : Limits → Type 0
 IsAmple limits = (limits.nodes + 2) * (limits.nodes + 3) ≤ limits.cache
 
--- How many steps an event costs at most: six for each pair of nodes in each row, and for each
--- variable, temporal subformula and node those of a walk for each code.
-abbrev pub event_bound : Limits → List Item → ℕ
-event_bound limits items =
+-- how many steps the judging of an event costs at most: six for each pair of nodes in each row, and
+-- for each variable, temporal subformula and node those of a walk for each code
+abbrev pub judging_bound : Limits → List Item → ℕ
+judging_bound limits items =
     6 * sum_by (λ s. rows_of s.kind limits.bits) (table_in items)
     * ((limits.nodes + 2) * (limits.nodes + 2))
     + length (variables_in items) * temporal_count (table_in items)
     * ((limits.nodes + 2) * (2 * limits.bits + 3) * 2 ^ limits.bits)
+
+-- and its witnesses: for each variable of a `forall` at the top of a property those of a walk for
+-- each code
+abbrev pub witness_bound : Limits → List Item → ℕ
+witness_bound limits items =
+    sum_by
+    (λ q. length (chain (formula_at (table_in items) q.root)) * ((limits.bits + 1) * 2 ^ limits.bits))
+    (plan_in items).props
+
+abbrev pub event_bound : Limits → List Item → ℕ
+event_bound limits items = judging_bound limits items + witness_bound limits items

@@ -13,7 +13,7 @@ use Rattle.run_model.specs.Limits.{IsAmple, event_bound}
 use Rattle.run_model.specs.Lines.{text_of_run, IsSentOf}
 use Rattle.run_model.specs.Stage.{Stands, IsDue}
 use Rattle.run_model.specs.Uses.{TellUses, left_in}
-use Rattle.run_model.specs.Verdicts.{properties, AreVerdicts}
+use Rattle.run_model.specs.Verdicts.{AreVerdicts}
 use Rattle.run_model.specs.Went.{Moment, Went, uses_of, Asks, HasFileCause, HasWriteCause}
 use Rattle.run_model.specs.declared.stop.Stop.{Stop}
 use Rattle.run_model.specs.declared.stop.Course.{Course}
@@ -34,7 +34,7 @@ pub record Reports (job : Option Job) (texts : List (Text × Text)) (went : Went
   pub judged : List Event
   pub rows : List (List Verdict)
   pub stands : Stands job texts items went.logs judged went.handed went.course
-  pub right : AreVerdicts judged (properties items) rows
+  pub right : AreVerdicts judged items rows
   pub events : went.events ≡ length judged
   pub violations : went.violations ≡ false_count rows
   -- what each closed source had left is told too

@@ -6,8 +6,11 @@ use Rattle.qtl_truth.specs.declared.event.Event.{Event}
 use Rattle.qtl_truth.specs.Truth.{Holds}
 use Rattle.wellformed.specs.Expansion.{expanded_props}
 use Rattle.wellformed.specs.Timed.{has_timed}
-use Rattle.report.specs.declared.shown.Shown.{Shown}
+use Rattle.subformulas.specs.Table.{Table}
+use Rattle.subformulas.specs.declared.table.PlanProp.{PlanProp}
 use Rattle.report.specs.Verdicts.{Verdict, True, False}
+use Rattle.report.specs.Witness.{IsWitness}
+use Rattle.run_model.specs.Limits.{plan_in}
 
 -- a property, with the items before it, the latest first: its macros are among them
 pub record Property : Type 0 where
@@ -38,23 +41,23 @@ is_timed items = list_any (λ p. has_timed p.1) (expanded_props [] 0 items)
 abbrev pub IsTrueAt : List Event → ℕ → Property → Type 0
 IsTrueAt log i p = Holds p.before log i [] p.formula
 
--- what is shown of a property that is false at event i: no values yet
-abbrev pub IsWitness : List Event → ℕ → Property → List Shown → Type 0
-IsWitness log i p witness = witness ≡ []
-
--- the verdict on a property at event i
-abbrev pub IsVerdict : List Event → ℕ → Property → Verdict → Type 0
-IsVerdict log i p True = IsTrueAt log i p
-IsVerdict log i p (False witness) = (¬ IsTrueAt log i p) × IsWitness log i p witness
+-- the verdict on a property at event i: where it is false, with its witness. q has the number of its
+-- formula in the plan
+abbrev pub IsVerdict : Table → List Event → ℕ → Property → PlanProp → Verdict → Type 0
+IsVerdict plan log i p q True = IsTrueAt log i p
+IsVerdict plan log i p q (False witness) =
+    (¬ IsTrueAt log i p) × IsWitness plan log i q.root witness
 
 -- a verdict for each property
-abbrev pub IsRow : List Event → ℕ → List Property → List Verdict → Type 0
-IsRow log i [] [] = Unit {0}
-IsRow log i (p ∷ ps) (v ∷ row) = IsVerdict log i p v × IsRow log i ps row
-IsRow log i _ _ = ⊥
+abbrev pub IsRow : Table → List Event → ℕ → List Property → List PlanProp → List Verdict → Type 0
+IsRow plan log i [] [] [] = Unit {0}
+IsRow plan log i (p ∷ ps) (q ∷ qs) (v ∷ row) =
+    IsVerdict plan log i p q v × IsRow plan log i ps qs row
+IsRow plan log i _ _ _ = ⊥
 
--- a row of verdicts for each event
-pub record AreVerdicts (log : List Event) (ps : List Property) (rows : List (List Verdict))
+-- a row of verdicts for each event, on the properties of these items
+pub record AreVerdicts (log : List Event) (items : List Item) (rows : List (List Verdict))
     : Type 0 where
   pub count : length rows ≡ length log
-  pub each : (i : ℕ) → i + 1 ≤ length log → IsRow log (i + 1) ps (get_or rows i [])
+  pub each : (i : ℕ) → i + 1 ≤ length log →
+      IsRow (plan_in items) log (i + 1) (properties items) (plan_in items).props (get_or rows i [])

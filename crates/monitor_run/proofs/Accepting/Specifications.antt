@@ -5,7 +5,7 @@ use Rattle.qtl_syntax.specs.Tree.{Text, Item}
 use Rattle.subformulas.specs.Table.{Table}
 use Rattle.wellformed.specs.Expansion.{expanded_props}
 use Rattle.qtl_truth.specs.declared.event.Event.{Event}
-use Rattle.monitor_model.specs.State.{Stands}
+use Rattle.monitor_model.specs.State.{IsLive, IsMonitor, Stands}
 use Rattle.run_model.specs.Limits.{table_in}
 use Rattle.run_model.specs.Uses.{Use, given, AreAsked}
 use Rattle.run_model.specs.Verdicts.{is_timed}
@@ -75,13 +75,15 @@ none_before [] later e is = let n : ⊥ = cc in n
 none_before (x ∷ before) later e is = let n : ⊥ = cc in n
 
 -- the judge before the first event
-pub judge_stands : (limits : Limits) (items : List Item) (judge : Judge) → IsPlanOf items judge.monitor.plan → HasSizes limits judge.monitor → Stands judge.monitor [] →
+pub judge_stands : (limits : Limits) (items : List Item) (judge : Judge) → IsPlanOf items judge.monitor.plan → HasSizes limits judge.monitor → IsMonitor judge.monitor → IsLive judge.monitor → Stands judge.monitor [] →
     judge.events ≡ 0 → judge.violations ≡ 0 → HasJudged limits items [] [] judge
-judge_stands limits items judge plan sizes stands events violations =
+judge_stands limits items judge plan sizes sound live stands events violations =
     record {
       plan = plan;
       sizes = sizes;
       stands = record {
+        sound = sound;
+        live = live;
         is_log = record { events = tt; times = λ i j low order high. absurd (omega (arith, low, order, high)) };
         stands = stands;
         judged = λ some. absurd (omega (arith, some));

@@ -9,7 +9,7 @@ use Rattle.std.proofs.lemmas.Bool.{cases_lt}
 use Rattle.qtl_truth.specs.declared.event.Event.{Event}
 use Rattle.subformulas.proofs.ByNumber.{get_last}
 use Rattle.monitor_model.specs.Reading.{Answers}
-use Rattle.monitor_model.specs.State.{State, Stands}
+use Rattle.monitor_model.specs.State.{State, IsLive, IsMonitor, Stands}
 use Rattle.monitor_step.specs.Monitor.{MatchEnd}
 use Rattle.monitor_step.specs.declared.monitor.StepEnd.{StepEnd}
 use Rattle.monitor_step.specs.declared.monitor.StepEnd.TheVariants as step_end
@@ -78,13 +78,13 @@ answered old new log e r s own later a =
 
 -- an event that is taken
 pub taken : (old new : State) (log : List Event) (e : Event) (u : Unit) → StandsFor old log →
-    IsEvent e → old.last_time ≤ e.time → new.has_now ≡ true → StepAnswers old new e (Ok u) →
+    IsEvent e → old.last_time ≤ e.time → new.has_now ≡ true → IsMonitor new → IsLive new → StepAnswers old new e (Ok u) →
     ComesTo old log e None × StandsFor new (log ++ e ∷ [])
-taken old new log e u s own later judged a =
+taken old new log e u s own later judged sound live a =
     let (is_log, h) = answered old new log e (Ok u) s own later a in
     let after : Answers old e new log None = h in
     let (end, stands, gives) = after in
-    (end, record { is_log = is_log; stands = stands; judged = λ some. judged })
+    (end, record { is_log = is_log; sound = sound; live = live; stands = stands; judged = λ some. judged })
 
 -- and one that is refused
 pub refused : (old new : Judge) (log : List Event) (e : Event) (end : StepEnd) →

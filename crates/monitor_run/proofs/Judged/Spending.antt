@@ -2,8 +2,7 @@
 use Rattle.std.proofs.Common.{◌≡◌, ℕ, ◌+◌, ◌*◌, ◌≤◌, refl, sym, ◌∙◌, subst, add-one, arith}
 use Rattle.std.proofs.Math.Nat.{mul-suc}
 use Rattle.bdd_ops.specs.Shelf.{IsLarge}
-use Rattle.monitor_step.specs.Monitor.{step_bound}
-use Rattle.monitor_run.specs.Judging.{Spends}
+use Rattle.monitor_run.specs.Judging.{Spends, judge_bound}
 use Rattle.monitor_run.specs.Standing.{KeepsPlan}
 use Rattle.monitor_run.specs.declared.judge.Judge.{Judge}
 
@@ -20,7 +19,7 @@ keeps_large j k s h = same j.monitor.shelf.table.room k.monitor.shelf.table.room
   same : (a b c d : ℕ) → b ≡ a → d ≡ c → (a + 2) * (a + 3) ≤ c → (b + 2) * (b + 3) ≤ d
   same a b c d e f h = rw (e, f) h
 
-pub keeps_bound : (j k : Judge) → KeepsPlan j k → step_bound k.monitor ≡ step_bound j.monitor
+pub keeps_bound : (j k : Judge) → KeepsPlan j k → judge_bound k.monitor ≡ judge_bound j.monitor
 keeps_bound j k s = rw (s.plan, s.bits, s.room) refl
 
 -- no event, and no step
@@ -53,20 +52,20 @@ pub spends_still : (bound events given before : ℕ) → events ≡ given → Sp
 spends_still bound events given before same = spends_to bound events events given before before (sym same) (spends_none bound events before)
 
 -- one event more, also where it can't be judged
-last_cost : (i j : Judge) (before now after : ℕ) → KeepsPlan i j → (IsLarge i.monitor.shelf → Spends (step_bound i.monitor) i.events j.events before now) →
-    (IsLarge j.monitor.shelf → after ≤ now + step_bound j.monitor) → IsLarge i.monitor.shelf → Spends (step_bound i.monitor) i.events (j.events + 1) before after
+last_cost : (i j : Judge) (before now after : ℕ) → KeepsPlan i j → (IsLarge i.monitor.shelf → Spends (judge_bound i.monitor) i.events j.events before now) →
+    (IsLarge j.monitor.shelf → after ≤ now + judge_bound j.monitor) → IsLarge i.monitor.shelf → Spends (judge_bound i.monitor) i.events (j.events + 1) before after
 last_cost i j before now after same spent one large =
-    spends_one (step_bound i.monitor) i.events j.events before now after (spent large)
+    spends_one (judge_bound i.monitor) i.events j.events before now after (spent large)
     (subst (λ (b : ℕ). after ≤ now + b) (keeps_bound i j same) (one (keeps_large i j same large)))
 
-pub asked_cost : (i j : Judge) (asked before now after : ℕ) → KeepsPlan i j → asked ≡ j.events + 1 → (IsLarge i.monitor.shelf → Spends (step_bound i.monitor) i.events j.events before now) →
-    (IsLarge j.monitor.shelf → after ≤ now + step_bound j.monitor) → IsLarge i.monitor.shelf → Spends (step_bound i.monitor) i.events asked before after
+pub asked_cost : (i j : Judge) (asked before now after : ℕ) → KeepsPlan i j → asked ≡ j.events + 1 → (IsLarge i.monitor.shelf → Spends (judge_bound i.monitor) i.events j.events before now) →
+    (IsLarge j.monitor.shelf → after ≤ now + judge_bound j.monitor) → IsLarge i.monitor.shelf → Spends (judge_bound i.monitor) i.events asked before after
 asked_cost i j asked before now after same count spent one large =
-    spends_to (step_bound i.monitor) i.events (j.events + 1) asked before after count (last_cost i j before now after same spent one large)
+    spends_to (judge_bound i.monitor) i.events (j.events + 1) asked before after count (last_cost i j before now after same spent one large)
 
 -- one call after the other
-pub calls_cost : (i j : Judge) (to before now after : ℕ) → KeepsPlan i j → (IsLarge i.monitor.shelf → Spends (step_bound i.monitor) i.events j.events before now) →
-    (IsLarge j.monitor.shelf → Spends (step_bound j.monitor) j.events to now after) → IsLarge i.monitor.shelf → Spends (step_bound i.monitor) i.events to before after
+pub calls_cost : (i j : Judge) (to before now after : ℕ) → KeepsPlan i j → (IsLarge i.monitor.shelf → Spends (judge_bound i.monitor) i.events j.events before now) →
+    (IsLarge j.monitor.shelf → Spends (judge_bound j.monitor) j.events to now after) → IsLarge i.monitor.shelf → Spends (judge_bound i.monitor) i.events to before after
 calls_cost i j to before now after same one two large =
-    spends_trans (step_bound i.monitor) i.events j.events to before now after (one large)
+    spends_trans (judge_bound i.monitor) i.events j.events to before now after (one large)
     (subst (λ (b : ℕ). Spends b j.events to now after) (keeps_bound i j same) (two (keeps_large i j same large)))

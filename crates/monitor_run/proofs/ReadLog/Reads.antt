@@ -12,7 +12,7 @@ use Rattle.report.specs.Lines.{event_lines, report_lines}
 use Rattle.report.specs.Passing.{Passes}
 use Rattle.report.specs.Verdicts.{Verdict, false_in}
 use Rattle.report.proofs.Passages.{passes_trans, passes_flushed, passes_none}
-use Rattle.run_model.specs.Limits.{ComesAt, setting_in}
+use Rattle.run_model.specs.Limits.{ComesAt, plan_in, setting_in}
 use Rattle.run_model.specs.Verdicts.{properties, names, is_timed, IsRow, AreVerdicts}
 use Rattle.run_model.specs.Walk.{AllFit, Takes}
 use Rattle.monitor_run.specs.Judging.{ComesTo, WritesEvent, last_lines}
@@ -121,15 +121,15 @@ next_sizes limits j k same sizes = record { bits = same.bits ∙ sizes.bits; nod
 
 -- the row of the event that came last
 next_row : (items : List Item) (log : List Event) (k : Judge) (e : Event) → IsPlanOf items k.monitor.plan → StandsFor k.monitor (log ++ e ∷ []) →
-    IsRow (log ++ e ∷ []) (length log + 1) (properties items) (row_of k.monitor)
+    IsRow (plan_in items) (log ++ e ∷ []) (length log + 1) (properties items) (plan_in items).props (row_of k.monitor)
 next_row items log k e plan stands =
     let n : length (log ++ e ∷ []) ≡ length log + 1 = let m = length-append log (e ∷ []) in omega (arith, m) in
-    subst (λ (i : ℕ). IsRow (log ++ e ∷ []) i (properties items) (row_of k.monitor)) n (row_right items k.monitor (log ++ e ∷ []) plan stands (omega (arith, n)))
+    subst (λ (i : ℕ). IsRow (plan_in items) (log ++ e ∷ []) i (properties items) (plan_in items).props (row_of k.monitor)) n (row_right items k.monitor (log ++ e ∷ []) plan stands (omega (arith, n)))
 
 module _ (limits : Limits) (items : List Item) (log : List Event) (rows : List (List Verdict)) (j k : Judge) (e : Event) (s : HasJudged limits items log rows j) (same : KeepsPlan j k) where
   -- the verdicts of one event more
-  pub rights_more : StandsFor k.monitor (log ++ e ∷ []) → AreVerdicts (log ++ e ∷ []) (properties items) (rows ++ row_of k.monitor ∷ [])
-  rights_more stands = verdicts_more log e (properties items) rows (row_of k.monitor) s.right (next_row items log k e (next_plan items j k same s.plan) stands)
+  pub rights_more : StandsFor k.monitor (log ++ e ∷ []) → AreVerdicts (log ++ e ∷ []) items (rows ++ row_of k.monitor ∷ [])
+  rights_more stands = verdicts_more log e items rows (row_of k.monitor) s.right (next_row items log k e (next_plan items j k same s.plan) stands)
 
   -- at which codes and nodes sufficed
   pub judged_fits : ComesTo j.monitor log e None → AllFit (ComesAt limits items) (log ++ e ∷ [])

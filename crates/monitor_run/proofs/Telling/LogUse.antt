@@ -7,17 +7,19 @@ use Rattle.qtl_syntax.specs.Tree.{Text, Item}
 use Rattle.qtl_truth.specs.declared.event.Event.{Event}
 use Rattle.log_reader.specs.Records.{End, Rest, At as FaultAt}
 use Rattle.monitor_model.specs.Ends as event_end
-use Rattle.monitor_step.specs.Monitor.{step_bound}
 use Rattle.report.specs.Passing.{Passes}
 use Rattle.report.proofs.Passages.{passes_none}
 use Rattle.run_model.specs.Job.{Job}
-use Rattle.run_model.specs.Limits.{ComesAt, event_bound, IsAmple, table_in}
+use Rattle.run_model.specs.Limits.{ComesAt, event_bound, IsAmple, judging_bound, table_in, witness_bound}
+use Rattle.report.specs.Witness.{chain}
+use Rattle.subformulas.specs.Unfolded.{formula_at}
+use Rattle.subformulas.specs.declared.table.PlanProp.{PlanProp}
 use Rattle.run_model.specs.Ran.{Costs}
 use Rattle.run_model.specs.Stage.{Walked, handed_by, texts_in}
 use Rattle.run_model.specs.Uses.{Use, NotGiven, Closed, told_first, given, AreAsked}
 use Rattle.run_model.specs.Verdicts.{properties, AreVerdicts}
 use Rattle.run_model.specs.Walk.{Close, Open, Ended, Past, Taken, Takes, Comes, Halts, Ends, Walks, known, stop_of_close, or_fault, stop_at}
-use Rattle.monitor_run.specs.Judging.{Spends}
+use Rattle.monitor_run.specs.Judging.{Spends, judge_bound}
 use Rattle.run_model.specs.Went.{log_way}
 use Rattle.monitor_run.specs.Opening.{AsksLog, LogHalted, StandsTo}
 use Rattle.monitor_run.specs.Reading.{Halted, HasReadCause, IsHanded, WalksTo, form_in}
@@ -82,13 +84,22 @@ abbrev bound_of : (bits nodes : ℕ) → List Sub → List Variable → ℕ
 bound_of bits nodes subs variables =
     6 * sum_by (λ s. rows_of s.kind bits) subs * ((nodes + 2) * (nodes + 2)) + length variables * temporal_count subs * ((nodes + 2) * (2 * bits + 3) * 2 ^ bits)
 
-pub bound_is : (limits : Limits) (items : List Item) (j : Judge) → IsPlanOf items j.monitor.plan → HasSizes limits j.monitor → step_bound j.monitor ≡ event_bound limits items
+abbrev witnesses_of : (bits : ℕ) → List Sub → List PlanProp → ℕ
+witnesses_of bits subs props = sum_by (λ q. length (chain (formula_at subs q.root)) * ((bits + 1) * 2 ^ bits)) props
+
+pub bound_is : (limits : Limits) (items : List Item) (j : Judge) → IsPlanOf items j.monitor.plan → HasSizes limits j.monitor → judge_bound j.monitor ≡ event_bound limits items
 bound_is limits items j plan sizes =
     let m = j.monitor in
+    let judging : bound_of m.bits m.shelf.table.room m.plan.subs m.plan.variables ≡ judging_bound limits items =
     ap (λ (bits : ℕ). bound_of bits m.shelf.table.room m.plan.subs m.plan.variables) sizes.bits
     ∙ ap (λ (nodes : ℕ). bound_of limits.bits nodes m.plan.subs m.plan.variables) sizes.nodes
     ∙ ap (λ (subs : List Sub). bound_of limits.bits limits.nodes subs m.plan.variables) plan.subs
-    ∙ ap (λ (variables : List Variable). bound_of limits.bits limits.nodes (table_in items) variables) plan.variables
+    ∙ ap (λ (variables : List Variable). bound_of limits.bits limits.nodes (table_in items) variables) plan.variables in
+    let witnesses : witnesses_of m.bits m.plan.subs m.plan.props ≡ witness_bound limits items =
+    ap (λ (bits : ℕ). witnesses_of bits m.plan.subs m.plan.props) sizes.bits
+    ∙ ap (λ (subs : List Sub). witnesses_of limits.bits subs m.plan.props) plan.subs
+    ∙ ap (witnesses_of limits.bits (table_in items)) plan.props in
+    ap (λ (n : ℕ). n + witnesses_of m.bits m.plan.subs m.plan.props) judging ∙ ap (λ (n : ℕ). judging_bound limits items + n) witnesses
 
 -- and its memo is as ample as the limits are
 pub large_is : (limits : Limits) (j : Judge) → HasSizes limits j.monitor → IsAmple limits → IsLarge j.monitor.shelf
@@ -102,7 +113,7 @@ spent_most bound from handed before after fresh spent =
     omega (arith, none, spent)
 
 pub costs_log : (job : Job) (items : List Item) (j : Judge) (from handed before after : ℕ) → HasJudged job.limits items [] [] j → from ≡ 0 → (handed ≡ 0 → after ≡ before) →
-    (IsLarge j.monitor.shelf → Spends (step_bound j.monitor) from handed before after) → Costs (Some job) items handed before after
+    (IsLarge j.monitor.shelf → Spends (judge_bound j.monitor) from handed before after) → Costs (Some job) items handed before after
 costs_log job items j from handed before after s fresh idle spent = (
   idle,
   λ ample. spent_most (event_bound job.limits items) from handed before after fresh
@@ -117,7 +128,7 @@ costs_none job items n = (λ none. refl, λ ample. go (event_bound job.limits it
 -- The log of a run
 
 -- nothing of it was judged: it was not opened
-pub nothing_right : (items : List Item) → AreVerdicts [] (properties items) []
+pub nothing_right : (items : List Item) → AreVerdicts [] items []
 nothing_right items = record { count = refl; each = λ i h. absurd (omega arith) }
 
 pub nothing_passed : (w : Option Text) (held : Text) → held ≡ [] → Passes w w [] held []

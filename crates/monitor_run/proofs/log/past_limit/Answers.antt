@@ -1,7 +1,7 @@
 use Rattle.std.proofs.Common.{◌≡◌, ℕ, List, [], ap, subst, take, length, arith}
 use Rattle.std.specs.Io.KnownBytes.{Consumes}
 use Rattle.std.proofs.lemmas.List.{length-take-le}
-use Rattle.monitor_step.specs.Monitor.{step_bound}
+use Rattle.monitor_run.specs.Judging.{judge_bound}
 use Rattle.monitor_run.proofs.ReadLog.Causes.{cut_later, no_read}
 use Rattle.monitor_run.proofs.Judged.Spending.{keeps_none, spends_still}
 use Rattle.monitor_run.proofs.ReadLog.Halts.{halts_at_read, halts_long}
@@ -37,10 +37,10 @@ pub returns-in-Ok-clause-plan : goal.returns-in-Ok-clause-plan
 returns-in-Ok-clause-plan g c = keeps_none c.args.judge.now
 
 pub returns-in-Ok-clause-cost : goal.returns-in-Ok-clause-cost
-returns-in-Ok-clause-cost g c large = spends_still (step_bound c.args.judge.now.monitor) c.args.judge.now.events c.args.reader.now.given c.args.steps.now c.requires.events
+returns-in-Ok-clause-cost g c large = spends_still (judge_bound c.args.judge.now.monitor) c.args.judge.now.events c.args.reader.now.given c.args.steps.now c.requires.events
 
 pub returns-in-Err-clause-plan : goal.returns-in-Err-clause-plan
 returns-in-Err-clause-plan g c = keeps_none c.args.judge.now
 
 pub returns-in-Err-clause-cost : goal.returns-in-Err-clause-cost
-returns-in-Err-clause-cost g c large = spends_still (step_bound c.args.judge.now.monitor) c.args.judge.now.events c.args.reader.now.given c.args.steps.now c.requires.events
+returns-in-Err-clause-cost g c large = spends_still (judge_bound c.args.judge.now.monitor) c.args.judge.now.events c.args.reader.now.given c.args.steps.now c.requires.events

@@ -1,5 +1,5 @@
 use Rattle.std.proofs.Common.{◌≡◌, ◌∙◌, ◌+◌, ◌++◌, [], sym, refl, ap, length-append, arith}
-use Rattle.monitor_step.specs.Monitor.{step_bound}
+use Rattle.monitor_run.specs.Judging.{judge_bound}
 use Rattle.monitor_run.specs.Standing.{has_times}
 use Rattle.monitor_run.proofs.ReadLog.Given.{is_fed_start}
 use Rattle.monitor_run.proofs.Judged.Spending.{calls_cost, keeps_none, keeps_trans, spends_none, spends_to}
@@ -18,7 +18,7 @@ pieces-init g c = record {
   within = omega arith;
   later = omega arith;
   out_later = omega arith;
-  cost = λ large. spends_none (step_bound c.args.judge.now.monitor) c.args.judge.now.events c.args.steps.now;
+  cost = λ large. spends_none (judge_bound c.args.judge.now.monitor) c.args.judge.now.events c.args.steps.now;
   idle = λ none. refl;
 }
 
@@ -48,7 +48,7 @@ returns-in-Ok-eq0-clause-cost g c =
     calls_cost c.args.judge.now c.take_turn.new.judge c.end_log.new.reader.given c.args.steps.now c.take_turn.new.steps c.end_log.new.steps
     (keeps_trans c.args.judge.now c.pieces.judge c.take_turn.new.judge c.pieces.invariant.plan c.take_turn.ensures.plan)
     (calls_cost c.args.judge.now c.pieces.judge c.take_turn.new.judge.events c.args.steps.now c.pieces.steps c.take_turn.new.steps c.pieces.invariant.plan c.pieces.invariant.cost
-    (λ large. spends_to (step_bound c.pieces.judge.monitor) c.pieces.judge.events c.take_turn.new.reader.given c.take_turn.new.judge.events c.pieces.steps c.take_turn.new.steps c.in-Ok-eq0.ensures.events (c.take_turn.ensures.cost large)))
+    (λ large. spends_to (judge_bound c.pieces.judge.monitor) c.pieces.judge.events c.take_turn.new.reader.given c.take_turn.new.judge.events c.pieces.steps c.take_turn.new.steps c.in-Ok-eq0.ensures.events (c.take_turn.ensures.cost large)))
     c.end_log.ensures.cost
 
 pub returns-in-Err-clause-halted : goal.returns-in-Err-clause-halted
@@ -81,7 +81,7 @@ pieces-preserved g c =
       later = omega (arith, c.take_turn.ensures.later, i.later);
       out_later = omega (arith, c.take_turn.ensures.out_later, i.out_later);
       cost = calls_cost c.args.judge.now c.pieces.judge c.take_turn.new.judge.events c.args.steps.now c.pieces.steps c.take_turn.new.steps i.plan i.cost
-          (λ large. spends_to (step_bound c.pieces.judge.monitor) c.pieces.judge.events c.take_turn.new.reader.given c.take_turn.new.judge.events c.pieces.steps c.take_turn.new.steps o.events (c.take_turn.ensures.cost large));
+          (λ large. spends_to (judge_bound c.pieces.judge.monitor) c.pieces.judge.events c.take_turn.new.reader.given c.take_turn.new.judge.events c.pieces.steps c.take_turn.new.steps o.events (c.take_turn.ensures.cost large));
       idle = λ none. let n = c.take_turn.ensures.grown in
           let before : c.pieces.reader.given ≡ 0 = omega (arith, n, none) in
           c.take_turn.ensures.idle (none ∙ sym before) ∙ i.idle before;

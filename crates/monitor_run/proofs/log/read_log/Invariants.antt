@@ -1,7 +1,7 @@
 use Rattle.std.proofs.Common.{◌≡◌, ◌-◌, ◌<◌, ◌≤◌, List, [], length, false, Some}
 use Rattle.bdd_ops.specs.Shelf.{IsLarge}
 use Rattle.qtl_syntax.specs.Tree.{Text, Item}
-use Rattle.monitor_step.specs.Monitor.{step_bound}
+use Rattle.monitor_run.specs.Judging.{judge_bound}
 use Rattle.monitor_run.specs.Judging.{Spends}
 use Rattle.monitor_run.specs.Reading.{IsFed, ReadsAll}
 use Rattle.monitor_run.specs.Standing.{HasJudged, IsReady, KeepsPlan}
@@ -21,7 +21,7 @@ invariant-pieces g l = record {
   within : l.taken ≤ l.limits.log;
   later : g.S.Source.faults l.fn.source ≤ g.S.Source.faults l.source;
   out_later : g.W.Sink.faults l.fn.out ≤ g.W.Sink.faults l.out;
-  cost : IsLarge l.fn.judge.monitor.shelf → Spends (step_bound l.fn.judge.monitor) l.fn.judge.events l.judge.events l.fn.steps l.steps;
+  cost : IsLarge l.fn.judge.monitor.shelf → Spends (judge_bound l.fn.judge.monitor) l.fn.judge.events l.judge.events l.fn.steps l.steps;
   idle : l.reader.given ≡ 0 → l.steps ≡ l.fn.steps;
 }
 

@@ -1,6 +1,6 @@
 use Rattle.std.proofs.Common.{◌∙◌, ◌+◌, ◌++◌, take, length, sym, arith}
 use Rattle.std.proofs.lemmas.List.{length-take-le}
-use Rattle.monitor_step.specs.Monitor.{step_bound}
+use Rattle.monitor_run.specs.Judging.{judge_bound}
 use Rattle.monitor_run.proofs.ReadLog.Causes.{cut_later, no_read}
 use Rattle.monitor_run.proofs.ReadLog.Given.{is_fed_piece}
 use Rattle.monitor_run.proofs.Judged.Spending.{keeps_none, spends_still}
@@ -23,14 +23,14 @@ pub returns-in-Err-clause-plan : goal.returns-in-Err-clause-plan
 returns-in-Err-clause-plan g c = keeps_none c.args.judge.now
 
 pub returns-in-Err-clause-cost : goal.returns-in-Err-clause-cost
-returns-in-Err-clause-cost g c large = spends_still (step_bound c.args.judge.now.monitor) c.args.judge.now.events c.args.reader.now.given c.args.steps.now c.requires.events
+returns-in-Err-clause-cost g c large = spends_still (judge_bound c.args.judge.now.monitor) c.args.judge.now.events c.args.reader.now.given c.args.steps.now c.requires.events
 
 pub returns-in-Err-feed-clause-plan : goal.returns-in-Err-feed-clause-plan
 returns-in-Err-feed-clause-plan g c = keeps_none c.args.judge.now
 
 pub returns-in-Err-feed-clause-cost : goal.returns-in-Err-feed-clause-cost
 returns-in-Err-feed-clause-cost g c large =
-    spends_still (step_bound c.args.judge.now.monitor) c.args.judge.now.events c.feed.new.self.given c.args.steps.now (c.requires.events ∙ sym c.feed.ensures.given)
+    spends_still (judge_bound c.args.judge.now.monitor) c.args.judge.now.events c.feed.new.self.given c.args.steps.now (c.requires.events ∙ sym c.feed.ensures.given)
 
 pub judge_fed-requires-clause-fed : goal.judge_fed-requires-clause-fed
 judge_fed-requires-clause-fed g c =

@@ -1,5 +1,5 @@
 use Rattle.std.proofs.Common.{◌∙◌, ℕ, refl, sym, subst, arith}
-use Rattle.monitor_step.specs.Monitor.{step_bound}
+use Rattle.monitor_run.specs.Judging.{judge_bound}
 use Rattle.monitor_run.specs.Reading.{IsFed, IsFedWithin}
 use Rattle.monitor_run.proofs.ReadLog.Causes.{cut_later, record_cause, record_unread}
 use Rattle.monitor_run.proofs.ReadLog.Halts.{halts_at_event, halts_at_record}
@@ -19,7 +19,7 @@ records-init g c = record {
   ready = c.requires.ready;
   plan = keeps_none c.args.judge.now;
   later = omega arith;
-  cost = λ large. spends_none (step_bound c.args.judge.now.monitor) c.args.judge.now.events c.args.steps.now;
+  cost = λ large. spends_none (judge_bound c.args.judge.now.monitor) c.args.judge.now.events c.args.steps.now;
   grown = omega arith;
   idle = λ same. refl;
 }
@@ -151,7 +151,7 @@ returns-in-Ok-None-clause-out_later g c = c.records.invariant.later
 pub returns-in-Ok-None-clause-cost : goal.returns-in-Ok-None-clause-cost
 returns-in-Ok-None-clause-cost g c large =
     let same = given_still c.in-Ok-None.field-0 c.records.reader.given c.next.new.self.given c.in-Ok-None.field-0-is c.in-Ok-None.ensures.given in
-    spends_to (step_bound c.args.judge.now.monitor) c.args.judge.now.events c.records.judge.events c.next.new.self.given c.args.steps.now c.records.steps (omega (arith, same, c.records.invariant.events)) (c.records.invariant.cost large)
+    spends_to (judge_bound c.args.judge.now.monitor) c.args.judge.now.events c.records.judge.events c.next.new.self.given c.args.steps.now c.records.steps (omega (arith, same, c.records.invariant.events)) (c.records.invariant.cost large)
 
 pub returns-in-Err-clause-err : goal.returns-in-Err-clause-err
 returns-in-Err-clause-err g c limits items all left sent given ended reads =
@@ -185,4 +185,4 @@ returns-in-Err-clause-out_later g c = c.records.invariant.later
 
 pub returns-in-Err-clause-cost : goal.returns-in-Err-clause-cost
 returns-in-Err-clause-cost g c large =
-    spends_to (step_bound c.args.judge.now.monitor) c.args.judge.now.events c.records.judge.events c.next.new.self.given c.args.steps.now c.records.steps (c.in-Err.ensures.given ∙ sym c.records.invariant.events) (c.records.invariant.cost large)
+    spends_to (judge_bound c.args.judge.now.monitor) c.args.judge.now.events c.records.judge.events c.next.new.self.given c.args.steps.now c.records.steps (c.in-Err.ensures.given ∙ sym c.records.invariant.events) (c.records.invariant.cost large)

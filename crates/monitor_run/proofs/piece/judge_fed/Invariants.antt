@@ -1,7 +1,7 @@
 use Rattle.std.proofs.Common.{◌≡◌, ℕ, ◌-◌, ◌≤◌, Bool, List, Option}
 use Rattle.bdd_ops.specs.Shelf.{IsLarge}
 use Rattle.qtl_syntax.specs.Tree.{Text, Item}
-use Rattle.monitor_step.specs.Monitor.{step_bound}
+use Rattle.monitor_run.specs.Judging.{judge_bound}
 use Rattle.monitor_run.specs.Judging.{Spends}
 use Rattle.monitor_run.specs.Reading.{IsFed, IsFedWithin, Reads}
 use Rattle.monitor_run.specs.Standing.{IsReady, KeepsPlan}
@@ -21,7 +21,7 @@ invariant-records g l = record {
   ready : IsReady l.judge;
   plan : KeepsPlan l.fn.judge l.judge;
   later : g.W.Sink.faults l.fn.out ≤ g.W.Sink.faults l.out;
-  cost : IsLarge l.fn.judge.monitor.shelf → Spends (step_bound l.fn.judge.monitor) l.fn.judge.events l.judge.events l.fn.steps l.steps;
+  cost : IsLarge l.fn.judge.monitor.shelf → Spends (judge_bound l.fn.judge.monitor) l.fn.judge.events l.judge.events l.fn.steps l.steps;
   grown : l.fn.reader.given ≤ l.reader.given;
   idle : l.reader.given ≡ l.fn.reader.given → l.steps ≡ l.fn.steps;
 }

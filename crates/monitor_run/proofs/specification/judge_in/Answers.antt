@@ -1,6 +1,6 @@
 use Rattle.std.proofs.Common.{◌≡◌, ◌≤◌, ◌∙◌, List, [], length, refl, sym, ap, subst, arith}
 use Rattle.qtl_syntax.specs.Tree.{Text, Item, items_of}
-use Rattle.subformulas.specs.Numbering.{all_numbered}
+use Rattle.subformulas.specs.Numbering.{all_numbered, roots}
 use Rattle.subformulas.specs.Table as table
 use Rattle.wellformed.specs.CoreTree.{CoreFormula}
 use Rattle.wellformed.specs.Expansion.{expanded_props}
@@ -28,6 +28,7 @@ returns-in-Ok-open-clause-ok c =
       sound = c.count-rows.ensures.sound;
       variables = variables;
       subs = rows;
+      props = c.in-Ok-make_plan.ensures.roots ∙ ap (roots 0) c.in-Ok-check.ensures.props;
       kept = λ log nu long. subst (λ (ps : List (Text × CoreFormula)). AreKept log nu [] items ps) (sym c.in-Ok-make_plan.ensures.props)
           (c.in-Ok-check.ensures.kept log nu (subst (λ vs. length vs ≤ length nu) c.in-Ok-make_plan.ensures.variables long));
     } in
@@ -36,7 +37,7 @@ returns-in-Ok-open-clause-ok c =
       spelled = c.in-Ok.ensures.ok;
       clear = c.in-Ok-check.ensures.accepted refl;
       judged = judge_stands c.args.limits items _ (subst (λ (p : table.Table). IsPlanOf items p) (sym c.in-Ok-open.ensures.plan) is)
-          (record { bits = c.in-Ok-open.ensures.bits; nodes = c.in-Ok-open.ensures.room; cache = c.in-Ok-open.ensures.entries }) c.in-Ok-open.ensures.stands refl refl;
+          (record { bits = c.in-Ok-open.ensures.bits; nodes = c.in-Ok-open.ensures.room; cache = c.in-Ok-open.ensures.entries }) c.is_live-live.ensures.sound (c.is_live-live.ensures.alive (c.is_live-live.ensures.is ∙ c.in-Ok-open.ensures.stands.live)) c.in-Ok-open.ensures.stands refl refl;
     }
 
 pub returns-in-Ok-open-clause-ready : goal.returns-in-Ok-open-clause-ready
