@@ -69,12 +69,3 @@ turn_cost (suc n) first second third fourth some a b c =
       where
         products : (k n h power : ℕ) → power ≡ suc h + suc h → (suc n + 1) * power ≡ n * (h + h) + n * 2 + 2 * power
         products k n h power e = rw e (omega arith)
-
-pub walk_cost : (bits first second : ℕ) → second ≤ first + bits → second ≤ first + (bits + 1) * 2 ^ bits
-walk_cost bits first second a =
-    let some = pow_pos bits in
-    by_power (2 ^ bits) some
-  where
-    by_power : (power : ℕ) → 1 ≤ power → second ≤ first + (bits + 1) * power
-    by_power zero p = absurd (omega (arith, p))
-    by_power (suc p) q = let whole : (bits + 1) * suc p ≡ (bits + 1) * p + bits + 1 = omega arith in omega (arith, a, whole)

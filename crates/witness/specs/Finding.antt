@@ -51,8 +51,8 @@ module _ (m : State) where
   abbrev pub with_code_of : (x code : ℕ) → Tree → Tree
   with_code_of x code tree = set_block (first_of (setting_of m) x) m.bits code tree
 
-  -- what is shown for x over a tree: any text where all ones leave a tree other than true, which is what
-  -- a text without a code reads as; else the least text whose code does
+  -- what is shown for x over a tree: any text where all ones leave a tree other than true, which is
+  -- what a text without a code reads as; else the least text whose code does
   abbrev pub value_over : (x : ℕ) → Tree → Value
   value_over x tree =
       if is_one (with_code_of x ones tree) then
@@ -73,7 +73,7 @@ module _ (m : State) where
   shown_over (x ∷ later) tree =
       record { name = name_of x; value = value_over x tree } ∷ shown_over later (left_over x tree)
 
-  -- what is shown of the property whose formula has number k: a row stands behind those below it, so k
-  -- looks suffice
+  -- what is shown of the property whose formula has number k: a row stands behind those below it, so
+  -- k looks suffice
   abbrev pub witness_of : (k : ℕ) → List Shown
   witness_of k = shown_over (chain (formula_at m.plan.subs k)) (now_of m (row_below m.plan.subs k k))

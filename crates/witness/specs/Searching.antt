@@ -18,8 +18,8 @@ abbrev pub IsLeastIfAny : (P : Text → Type 0) → Option Text → Type 0
 IsLeastIfAny P None = (u : Text) → ¬ P u
 IsLeastIfAny P (Some t) = IsLeast P t
 
--- one of 2^bits codes from `from` on stands for the text and, set in the levels from `level` on, leaves a
--- tree other than true
+-- one of 2^bits codes from `from` on stands for the text and, set in the levels from `level` on,
+-- leaves a tree other than true
 pub record CanLeave (pairs : Pairs) (level bits from : ℕ) (tree : Tree) (u : Text) : Type 0 where
   pub code : ℕ
   pub below : code < 2 ^ bits

@@ -45,11 +45,16 @@ fn show<L: Ledger>(
     requires live { monitor.now.live ≡ true }
     requires variable { x < variables_of monitor.now }
     requires valid { IsValid monitor.now.shelf.table h }
-    requires below { IsOrderedFrom (first_of (setting_of monitor.now) x) (tree_of monitor.now.shelf.table h) }
+    requires below { IsOrderedFrom (first_of (setting_of monitor.now) x)
+        (tree_of monitor.now.shelf.table h) }
     ensures shown { OnOk result (shown.new.items ≡ shown.old.items ++
-        record { name = name_of monitor.now x; value = value_over monitor.now x (tree_of monitor.now.shelf.table h) } ∷ []) }
+        record {
+          name = name_of monitor.now x;
+          value = value_over monitor.now x (tree_of monitor.now.shelf.table h);
+        } ∷ []) }
     ensures valid { IfOk result (IsValid monitor.now.shelf.table) }
-    ensures tree { IfOk result (λ r. tree_of monitor.now.shelf.table r ≡ left_over monitor.now x (tree_of monitor.now.shelf.table h)) }
+    ensures tree { IfOk result (λ r. tree_of monitor.now.shelf.table r ≡
+        left_over monitor.now x (tree_of monitor.now.shelf.table h)) }
     ensures cost { steps.new ≤ steps.old + (monitor.now.bits + 1) * 2 ^ monitor.now.bits }
 {
     let chosen = choose(monitor, x, h, steps)?;
@@ -73,11 +78,13 @@ pub fn show_chain<L: Ledger>(
     requires from { 1 ≤ k }
     requires to { k ≤ length monitor.now.plan.subs }
     requires valid { IsValid monitor.now.shelf.table h }
-    requires turns { HasTurns (setting_of monitor.now) (chain (formula_at monitor.now.plan.subs k)) (tree_of monitor.now.shelf.table h) }
+    requires turns { HasTurns (setting_of monitor.now) (chain (formula_at monitor.now.plan.subs k))
+        (tree_of monitor.now.shelf.table h) }
     ensures shown { OnOk result (shown.new.items ≡ shown.old.items ++
-        shown_over monitor.now (chain (formula_at monitor.now.plan.subs k)) (tree_of monitor.now.shelf.table h)) }
-    ensures cost { steps.new ≤ steps.old +
-        length (chain (formula_at monitor.now.plan.subs k)) * ((monitor.now.bits + 1) * 2 ^ monitor.now.bits) }
+        shown_over monitor.now (chain (formula_at monitor.now.plan.subs k))
+        (tree_of monitor.now.shelf.table h)) }
+    ensures cost { steps.new ≤ steps.old + length (chain (formula_at monitor.now.plan.subs k)) *
+        ((monitor.now.bits + 1) * 2 ^ monitor.now.bits) }
 {
     let plan = monitor.plan();
     let _sound = plan.count();

@@ -40,10 +40,13 @@ pub fn choose<L: Ledger>(
     requires live { monitor.now.live ≡ true }
     requires variable { x < variables_of monitor.now }
     requires valid { IsValid monitor.now.shelf.table h }
-    requires below { IsOrderedFrom (first_of (setting_of monitor.now) x) (tree_of monitor.now.shelf.table h) }
-    ensures value { IfOk result (λ c. c.value ≡ value_over monitor.now x (tree_of monitor.now.shelf.table h)) }
+    requires below { IsOrderedFrom (first_of (setting_of monitor.now) x)
+        (tree_of monitor.now.shelf.table h) }
+    ensures value { IfOk result (λ c. c.value ≡
+        value_over monitor.now x (tree_of monitor.now.shelf.table h)) }
     ensures valid { IfOk result (λ c. IsValid monitor.now.shelf.table c.rest) }
-    ensures tree { IfOk result (λ c. tree_of monitor.now.shelf.table c.rest ≡ left_over monitor.now x (tree_of monitor.now.shelf.table h)) }
+    ensures tree { IfOk result (λ c. tree_of monitor.now.shelf.table c.rest ≡
+        left_over monitor.now x (tree_of monitor.now.shelf.table h)) }
     ensures cost { steps.new ≤ steps.old + (monitor.now.bits + 1) * 2 ^ monitor.now.bits }
 {
     let _live = monitor.is_live();

@@ -27,7 +27,8 @@ fn is_before(a: &Text, b: &Text) -> bool
 
 /// The lesser of two texts that there may be.
 fn lesser_of<'a>(a: Option<&'a Text>, b: Option<&'a Text>) -> Option<&'a Text>
-    ensures { option_map (λ t. t.now) result ≡ lesser_of (option_map (λ t. t.now) a.entry) (option_map (λ t. t.now) b.entry) }
+    ensures { option_map (λ t. t.now) result ≡
+        lesser_of (option_map (λ t. t.now) a.entry) (option_map (λ t. t.now) b.entry) }
 {
     match a {
         None => b,
@@ -48,8 +49,8 @@ fn half(bits: u8) -> u32
     1u32 << (bits - 1)
 }
 
-/// The least text of the codes from `from` on, one for each way down so many levels, that lead to a tree other than true. A tree
-/// that is true everywhere is left at once. Each level costs two steps.
+/// The least text of the codes from `from` on, one for each way down so many levels, that lead to a
+/// tree other than true. A tree that is true everywhere is left at once. Each level costs two steps.
 fn least_from<'a, L: Ledger>(
     table: &NodeTable,
     h: Handle,
@@ -64,7 +65,8 @@ fn least_from<'a, L: Ledger>(
     requires block { level + bits ≤ 65536 }
     requires codes { from + 2 ^ bits ≤ 2 ^ 20 }
     requires below { IsOrderedFrom level (tree_of table.now h) }
-    ensures least { IsLeastIfAny (CanLeave book.now.pairs level bits from (tree_of table.now h)) (option_map (λ t. t.now) result) }
+    ensures least { IsLeastIfAny (CanLeave book.now.pairs level bits from (tree_of table.now h))
+        (option_map (λ t. t.now) result) }
     ensures cost { steps.new + 2 ≤ steps.old + 2 * 2 ^ bits }
 {
     let _held = table.live();
@@ -99,7 +101,8 @@ pub fn least_failing<'a, L: Ledger>(
     requires block { block.first + block.bits ≤ 65536 }
     requires codes { book.now.bits ≡ block.bits }
     requires below { IsOrderedFrom block.first (tree_of table.now h) }
-    ensures least { option_map (λ t. t.now) result ≡ least_failing block.first block.bits (tree_of table.now h) book.now.pairs }
+    ensures least { option_map (λ t. t.now) result ≡
+        least_failing block.first block.bits (tree_of table.now h) book.now.pairs }
     ensures cost { steps.new + 2 ≤ steps.old + 2 * 2 ^ block.bits }
 {
     let _free = book.free_count();

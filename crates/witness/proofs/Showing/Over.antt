@@ -29,10 +29,6 @@ pub all_map : (P Q : ℕ → Type 0) → ((x : ℕ) → P x → Q x) → (xs : L
 all_map P Q f [] h = tt
 all_map P Q f (x ∷ xs) h = (f x h.0, all_map P Q f xs h.1)
 
-pub all_of : (P : ℕ → Type 0) → ((x : ℕ) → P x) → (xs : List ℕ) → AllByRecursion P xs
-all_of P f [] = tt
-all_of P f (x ∷ xs) = (f x, all_of P f xs)
-
 pub put_own : (x : ℕ) (t : Text) (nu : Texts) → put x t nu x ≡ t
 put_own x t nu = let same : nat_eq x x ≡ true = grind (arith, nat_tests) in ap (λ b. if b then t else nu x) same
 
