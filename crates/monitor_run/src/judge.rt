@@ -46,7 +46,8 @@ fn find_violations<L: Ledger>(
 ) -> Result<Vec<Violation>, NoMemory>
     requires live { monitor.now.live ≡ true }
     requires some { 1 ≤ monitor.now.events }
-    ensures are { IfOk result (λ found. map as_false_one found.items ≡ false_ones 0 (row_of monitor.now)) }
+    ensures are { IfOk result (λ found.
+        map as_false_one found.items ≡ false_ones 0 (row_of monitor.now)) }
     ensures cost { steps.new ≤ steps.old + witness_bound monitor.now }
 {
     let plan = monitor.plan();
@@ -75,7 +76,8 @@ fn put_violations<W: Sink>(
     ensures ok { OnOk result (Passes (W.written out.old) (W.written out.new) output.old output.new
         (false_lines event (map (λ q. q.name) plan.now.props) (map as_false_one violations.now))) }
     ensures err { OnErr result (AppendsFront (W.written out.old) (W.written out.new)
-        (output.old ++ false_lines event (map (λ q. q.name) plan.now.props) (map as_false_one violations.now))) }
+        (output.old ++ false_lines event (map (λ q. q.name) plan.now.props)
+        (map as_false_one violations.now))) }
     ensures cause { HasCause (W.faults out.old) (W.faults out.new) result }
 {
     let Some((first, later)) = violations.split_first() else {

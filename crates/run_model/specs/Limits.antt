@@ -82,7 +82,8 @@ judging_bound limits items =
 abbrev pub witness_bound : Limits → List Item → ℕ
 witness_bound limits items =
     sum_by
-    (λ q. length (chain (formula_at (table_in items) q.root)) * ((limits.bits + 1) * 2 ^ limits.bits))
+    (λ q. length (chain (formula_at (table_in items) q.root))
+    * ((limits.bits + 1) * 2 ^ limits.bits))
     (plan_in items).props
 
 abbrev pub event_bound : Limits → List Item → ℕ

@@ -41,8 +41,8 @@ is_timed items = list_any (λ p. has_timed p.1) (expanded_props [] 0 items)
 abbrev pub IsTrueAt : List Event → ℕ → Property → Type 0
 IsTrueAt log i p = Holds p.before log i [] p.formula
 
--- the verdict on a property at event i: where it is false, with its witness. q has the number of its
--- formula in the plan
+-- the verdict on a property at event i: where it is false, with its witness. q has the number of
+-- its formula in the plan
 abbrev pub IsVerdict : Table → List Event → ℕ → Property → PlanProp → Verdict → Type 0
 IsVerdict plan log i p q True = IsTrueAt log i p
 IsVerdict plan log i p q (False witness) =

@@ -73,7 +73,8 @@ module _ (m : State) where
   shown_over (x ∷ later) tree =
       record { name = name_of x; value = value_over x tree } ∷ shown_over later (left_over x tree)
 
-  -- what is shown of the property whose formula has number k: a row stands behind those below it, so
-  -- k looks suffice
+  -- what is shown of the property whose formula has number k: a row stands behind those below it,
+  -- so k looks suffice
   abbrev pub witness_of : (k : ℕ) → List Shown
-  witness_of k = shown_over (chain (formula_at m.plan.subs k)) (now_of m (row_below m.plan.subs k k))
+  witness_of k =
+      shown_over (chain (formula_at m.plan.subs k)) (now_of m (row_below m.plan.subs k k))

@@ -49,8 +49,9 @@ fn half(bits: u8) -> u32
     1u32 << (bits - 1)
 }
 
-/// The least text of the codes from `from` on, one for each way down so many levels, that lead to a
-/// tree other than true. A tree that is true everywhere is left at once. Each level costs two steps.
+/// The least text of the codes from `from` on, one for each way down so many levels, that lead to
+/// a tree other than true. A tree that is true everywhere is left at once. Each level costs two
+/// steps.
 fn least_from<'a, L: Ledger>(
     table: &NodeTable,
     h: Handle,

@@ -16,10 +16,11 @@ use report::Shown;
 use std::alloc::Global;
 use std::sync::ledger::Ledger;
 
-/// The witness of property p, counted from 0, which is false at the last event: for each variable of
-/// the `forall` at its top, from outside, any text, where one that the log doesn't have can be extended
-/// by the later variables to a violation; else the least text by bytes that can. It makes no node, and
-/// costs at most (B + 1) * 2^B steps for each of these variables, where a code has B bits.
+/// The witness of property p, counted from 0, which is false at the last event: for each variable
+/// of the `forall` at its top, from outside, any text, where one that the log doesn't have can be
+/// extended by the later variables to a violation; else the least text by bytes that can. It makes
+/// no node, and costs at most (B + 1) * 2^B steps for each of these variables, where a code has B
+/// bits.
 pub fn find<L: Ledger>(
     alloc: Global,
     monitor: &Monitor,
@@ -33,7 +34,8 @@ pub fn find<L: Ledger>(
         (slice_get monitor.now.plan.props p) ≡ Some false }
     ensures is { IfOk result (λ w. w.items ≡ witness_of monitor.now (root_of monitor.now p)) }
     ensures witness { (log : List TheEvent) → IsLog log → Stands monitor.now log →
-        IfOk result (λ w. IsWitness monitor.now.plan log (length log) (root_of monitor.now p) w.items) }
+        IfOk result (λ w. IsWitness monitor.now.plan log (length log)
+        (root_of monitor.now p) w.items) }
     ensures cost { steps.new ≤ steps.old + find_bound monitor.now (root_of monitor.now p) }
 {
     witnesses_hold();
