@@ -1,5 +1,5 @@
 -- What an event does to a judge, and what is written of it.
-use Rattle.std.specs.Prelude.{◌≡◌, ⊤, ℕ, ◌+◌, ◌*◌, ◌≤◌, List, [], ◌∷◌, ◌++◌, length, Option, Some, None, Result, Ok, Err, slice_get, unwrap_or}
+use Rattle.std.specs.Prelude.{◌≡◌, ⊤, ℕ, ◌+◌, ◌*◌, ◌≤◌, List, [], ◌∷◌, ◌++◌, length, Option, Some, None, Result, Ok, Err}
 use Rattle.std.specs.List.{sum_by}
 use Rattle.mon_base.specs.Told.{AppendsFront}
 use Rattle.qtl_syntax.specs.Tree.{Text}
@@ -9,7 +9,7 @@ use Rattle.monitor_model.specs.State.{State, setting_of}
 use Rattle.monitor_step.specs.Monitor.{step_bound}
 use Rattle.monitor_step.specs.declared.monitor.StepEnd.{StepEnd}
 use Rattle.monitor_step.specs.declared.monitor.StepEnd.TheVariants as step_end
-use Rattle.report.specs.Lines.{event_lines, violation_line}
+use Rattle.report.specs.Lines.{event_lines}
 use Rattle.report.specs.Passing.{Passes}
 use Rattle.report.specs.Verdicts.{Verdict, True, False, false_in}
 use Rattle.report.specs.declared.shown.Shown.{Shown}
@@ -17,7 +17,6 @@ use Rattle.run_model.specs.Walk.{stop_at}
 use Rattle.monitor_run.specs.Standing.{StandsFor, names_in, row_of}
 use Rattle.witness.specs.Turns.{find_bound}
 use Rattle.monitor_run.specs.declared.judge.Judge.{Judge}
-use Rattle.monitor_run.specs.declared.judge.Violation.{Violation}
 use Rattle.run_model.specs.declared.stop.Halt.{Halt}
 use Rattle.run_model.specs.declared.stop.Halt.TheVariants.{At, Lost}
 use Rattle.run_model.specs.declared.stop.LogStop.{LogStop}
@@ -45,22 +44,11 @@ Judges old new log e (Err (At stop)) =
     (why : event_end.End) × (stop ≡ stop_at (old.events + 1) why)
     × ComesTo old.monitor log e (Some why)
 
--- the false ones among verdicts: the number of each property, where the first has this one, and its
--- witness
-abbrev pub false_ones : ℕ → List Verdict → List (ℕ × List Shown)
-false_ones p [] = []
-false_ones p (True ∷ row) = false_ones (p + 1) row
-false_ones p (False witness ∷ row) = (p, witness) ∷ false_ones (p + 1) row
-
--- their lines at an event
-abbrev pub false_lines : ℕ → List Text → List (ℕ × List Shown) → Text
-false_lines event names [] = []
-false_lines event names (v ∷ vs) =
-    violation_line event (unwrap_or (slice_get names v.0) []) v.1 ++ false_lines event names vs
-
--- a violation that is kept until it is written, as such a one
-abbrev pub as_false_one : Violation → ℕ × List Shown
-as_false_one v = (v.property, v.witness.items)
+-- the witnesses of the false ones among verdicts
+abbrev pub witnesses_in : List Verdict → List (List Shown)
+witnesses_in [] = []
+witnesses_in (True ∷ row) = witnesses_in row
+witnesses_in (False witness ∷ row) = witness ∷ witnesses_in row
 
 -- how many steps an event costs at most: those of the monitor, and those of its witnesses
 abbrev pub witness_bound : State → ℕ
@@ -71,7 +59,7 @@ judge_bound m = step_bound m + witness_bound m
 
 -- the lines of the event that came last
 abbrev pub last_lines : Judge → Text
-last_lines j = event_lines j.events (names_in j.monitor) (row_of j.monitor)
+last_lines j = event_lines j.shows_true j.events (names_in j.monitor) (row_of j.monitor)
 
 -- nothing was judged, written or held back
 abbrev pub StaysAsItWas : (old new : Judge) (sent0 sent1 : Option Text) (held0 held1 : Text) →

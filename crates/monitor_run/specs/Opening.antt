@@ -1,5 +1,5 @@
 -- How the use of a file goes: what was asked for, what the files tell of it, and what came of it.
-use Rattle.std.specs.Prelude.{◌≡◌, ◌≢◌, ◌≤◌, ◌⊎◌, ⊤, ℕ, Bool, IsTrue, List, [], ◌∷◌, length, Option, Some, None, IfSome, IsSomeAnd, Result, Ok, Err}
+use Rattle.std.specs.Prelude.{◌≡◌, ◌≢◌, ◌≤◌, ◌⊎◌, ⊤, ℕ, Bool, IsTrue, List, [], ◌∷◌, length, map, Option, Some, None, IfSome, IsSomeAnd, Result, Ok, Err}
 use Rattle.mon_base.specs.Told.{text_of}
 use Rattle.qtl_syntax.specs.Tree.{Text, Item}
 use Rattle.qtl_syntax.specs.Faults.{SpellsWithin, IsFault}
@@ -15,17 +15,17 @@ use Rattle.report.specs.Lines.{report_lines}
 use Rattle.report.specs.Verdicts.{Verdict, false_count}
 use Rattle.run_model.specs.Accepted.{IsTooLong, Accepts}
 use Rattle.run_model.specs.Course.{is_spec_fault, is_log_fault}
-use Rattle.run_model.specs.Job.{Job, log_names}
+use Rattle.settings.specs.Asked.{Origin}
+use Rattle.run_model.specs.Job.{Job, names_from}
 use Rattle.run_model.specs.Ran.{Costs}
-use Rattle.run_model.specs.Stage.{Refuses, IsNothing, IsWalking, StandsAtLog, texts_in}
+use Rattle.run_model.specs.Stage.{Refuses, IsNothing, IsWalking, StandsAtLog, logs_in}
 use Rattle.run_model.specs.Uses.{Use, TellUses, left_in, given, AreAsked, AreSomeAsked}
 use Rattle.run_model.specs.Verdicts.{properties, names, AreVerdicts}
-use Rattle.run_model.specs.Went.{spec_way, log_way}
+use Rattle.run_model.specs.Went.{AsksLog, spec_way}
 use Rattle.monitor_run.specs.Reading.{IsCounted, LinesPass}
 use Rattle.monitor_run.specs.Standing.{HasJudged}
 use Rattle.run_model.specs.declared.TheConstants.{MAX_SPEC}
 use Rattle.monitor_run.specs.declared.judge.Judge.{Judge}
-use Rattle.run_model.specs.declared.limits.Limits.{Limits}
 use Rattle.run_model.specs.declared.stop.Halt.{Halt}
 use Rattle.run_model.specs.declared.stop.Halt.TheVariants.{At, Lost}
 use Rattle.run_model.specs.declared.stop.LogStop.{LogStop}
@@ -75,11 +75,11 @@ StopsReading texts name (Lost loss) = loss ≡ Starved
 
 -- the text spells items that are accepted, and the judge is that of their properties before the
 -- first event
-pub record IsSpelled (limits : Limits) (text : Text) (judge : Judge) : Type 0 where
+pub record IsSpelled (job : Job) (text : Text) (judge : Judge) : Type 0 where
   pub items : List Item
   pub spelled : SpellsWithin text items
   pub clear : first_fault items ≡ None
-  pub judged : HasJudged limits items [] [] judge
+  pub judged : HasJudged job items [] [] judge
 
 -- it has a fault, or spells items whose names have one, or there was no memory
 abbrev pub IsUnspelled : Text → Halt SpecStop → Type 0
@@ -104,12 +104,12 @@ abbrev pub halt_of_record : LogFault → Halt LogStop
 halt_of_record log_fault.NoMemory = Lost Starved
 halt_of_record fault = At (log_stop.Fault fault)
 
--- the judge of the specification of this name
-pub record SpecRead (limits : Limits) (texts : Option (List (Text × Text))) (spec : Text)
-    (judge : Judge) : Type 0 where
+-- the judge of the job's specification
+pub record SpecRead (job : Job) (texts : Option (List (Text × Text))) (judge : Judge)
+    : Type 0 where
   pub items : List Item
-  pub judged : HasJudged limits items [] [] judge
-  pub accepted : IfSome texts (λ files. Accepts (text_of files spec) items)
+  pub judged : HasJudged job items [] [] judge
+  pub accepted : IfSome texts (λ files. Accepts (text_of files job.spec) items)
 
 -- why the specification of this name gave none: a file's fault, or what its bytes decide
 abbrev pub SpecRefused : List (Text × Text) → Text → Halt SpecStop → Type 0
@@ -124,11 +124,11 @@ abbrev pub HasLogCause : (files_rose : Type 0) → Halt LogStop → Type 0
 HasLogCause files_rose (At stop) = IsTrue (is_log_fault stop) → files_rose
 HasLogCause files_rose (Lost loss) = ⊤
 
--- which uses there were, by how its reading gave up
-abbrev pub AsksLog : Text → Halt LogStop → List Use → Type 0
-AsksLog name (At stop) uses = AreAsked (record { name = name; way = log_way stop } ∷ []) uses
-AsksLog name (Lost Cut) uses = AreAsked (given name ∷ []) uses
-AsksLog name (Lost Starved) uses = AreSomeAsked (given name ∷ []) uses
+-- which uses there were, by how its reading gave up: none of a sample, which has no file's fault
+abbrev pub AsksTo : Origin → Halt LogStop → List Use → Type 0
+AsksTo origin (At stop) uses = AsksLog origin stop uses
+AsksTo origin (Lost Cut) uses = AreAsked (map given (names_from origin)) uses
+AsksTo origin (Lost Starved) uses = AreSomeAsked (map given (names_from origin)) uses
 
 -- how far it came by the bytes of the logs, where each of them is there
 abbrev pub StandsTo : Job → List Item → Option (List Text) → List Use → List Event → (handed : ℕ) →
@@ -149,10 +149,10 @@ pub record LogHalted (job : Job) (texts : List (Text × Text)) (items : List Ite
   pub judged : List Event
   pub rows : List (List Verdict)
   pub handed : ℕ
-  pub stands : StandsTo job items (texts_in texts (log_names job)) uses judged handed halt
+  pub stands : StandsTo job items (logs_in job texts items) uses judged handed halt
   pub right : AreVerdicts judged items rows
   pub counted : IsCounted halt judge (length judged) (false_count rows)
-  pub lines : LinesPass halt sent0 sent1 held (report_lines 1 (names (properties items)) rows)
+  pub lines : LinesPass halt sent0 sent1 held (report_lines job.all 1 (names (properties items)) rows)
   pub cost : Costs (Some job) items handed before after
   -- what the source had left is told
   pub left : List Text

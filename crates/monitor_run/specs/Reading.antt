@@ -17,7 +17,7 @@ use Rattle.run_model.specs.Verdicts.{properties, names, is_timed, AreVerdicts}
 use Rattle.run_model.specs.Walk.{Form, Input, Close, Open, Ended, Taken, Takes, Comes, Walks, HasWalked, known}
 use Rattle.monitor_run.specs.Standing.{HasJudged}
 use Rattle.monitor_run.specs.declared.judge.Judge.{Judge}
-use Rattle.run_model.specs.declared.limits.Limits.{Limits}
+use Rattle.run_model.specs.Job.{Job}
 use Rattle.run_model.specs.declared.stop.Halt.{Halt}
 use Rattle.run_model.specs.declared.stop.Halt.TheVariants.{At, Lost}
 use Rattle.run_model.specs.declared.stop.LogStop.{LogStop}
@@ -74,23 +74,23 @@ pub record IsTaken (limit : ℕ) (timed : Bool) (all : Text) (left : Option Text
 
 -- of the bytes that were taken some events were judged, and the violations of these were written or
 -- are held back
-pub record Reads (limits : Limits) (items : List Item) (all : Text) (left sent0 sent1 : Option Text)
+pub record Reads (job : Job) (items : List Item) (all : Text) (left sent0 sent1 : Option Text)
     (given : Text) (ended : Bool) (judge : Judge) (r : Reading) (held : Text) : Type 0 where
   pub log : List Event
   pub rows : List (List Verdict)
-  pub bytes : IsTaken limits.log (is_timed items) all left given ended log r
-  pub judged : HasJudged limits items log rows judge
-  pub lines : Passes sent0 sent1 [] held (report_lines 1 (names (properties items)) rows)
+  pub bytes : IsTaken job.limit (is_timed items) all left given ended log r
+  pub judged : HasJudged job items log rows judge
+  pub lines : Passes sent0 sent1 [] held (report_lines job.all 1 (names (properties items)) rows)
 
 -- the records of the bytes, read with times or without, are these events, and no fault
 abbrev pub AreAll : Bool → Text → Bool → List Event → Type 0
 AreAll timed given ended log = cut given timed ended ≡ record { events = log; end = Rest }
 
 -- all events of the bytes were judged
-pub record ReadsAll (limits : Limits) (items : List Item) (all : Text)
+pub record ReadsAll (job : Job) (items : List Item) (all : Text)
     (left sent0 sent1 : Option Text) (given : Text) (ended : Bool) (judge : Judge) (r : Reading)
     (held : Text) : Type 0 where
-  pub reads : Reads limits items all left sent0 sent1 given ended judge r held
+  pub reads : Reads job items all left sent0 sent1 given ended judge r held
   pub done : AreAll (is_timed items) given ended reads.log
 
 -- Giving up
@@ -123,21 +123,21 @@ LinesPass (Lost Starved) old new held lines = Passes old new [] held lines
 
 -- How the reading of a log gave up: what was taken of it, which events were judged, how many the
 -- monitor was handed, and what was written of them or is held back
-pub record Halted (limits : Limits) (items : List Item) (all : Text)
+pub record Halted (job : Job) (items : List Item) (all : Text)
     (left sent0 sent1 : Option Text) (held : Text) (judge : Judge) (handed : ℕ)
     (halt : Halt LogStop) : Type 0 where
   pub rest : Text
   pub remains : left ≡ Some rest
   pub taken : Taken
-  pub takes : Takes limits.log all rest taken
+  pub takes : Takes job.limit all rest taken
   pub judged : List Event
   pub rows : List (List Verdict)
-  pub walks : WalksTo (ComesAt limits items) (known (form_in items) limits.log taken) judged halt
+  pub walks : WalksTo (ComesAt job items) (known (form_in items) job.limit taken) judged halt
   pub handed_is : IsHanded halt (length judged) handed
-      (length (known (form_in items) limits.log taken).events)
+      (length (known (form_in items) job.limit taken).events)
   pub right : AreVerdicts judged items rows
   pub counted : IsCounted halt judge (length judged) (false_count rows)
-  pub lines : LinesPass halt sent0 sent1 held (report_lines 1 (names (properties items)) rows)
+  pub lines : LinesPass halt sent0 sent1 held (report_lines job.all 1 (names (properties items)) rows)
 
 -- a write failed only where the output's count rose
 abbrev pub HasCutCause : {S : Type 0} → (out_rose : Type 0) → Halt S → Type 0

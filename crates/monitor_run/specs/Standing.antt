@@ -15,7 +15,7 @@ use Rattle.run_model.specs.Verdicts.{AreVerdicts}
 use Rattle.run_model.specs.Walk.{AllFit}
 use Rattle.witness.specs.Finding.{witness_of}
 use Rattle.monitor_run.specs.declared.judge.Judge.{Judge}
-use Rattle.run_model.specs.declared.limits.Limits.{Limits}
+use Rattle.run_model.specs.Job.{Job}
 
 -- the monitor's verdict on a property, where it is false with what is found for it
 abbrev pub verdict_of : monitor.State → PlanProp → Verdict
@@ -42,11 +42,11 @@ pub record IsPlanOf (items : List Item) (plan : table.Table) : Type 0 where
   pub kept : (log : List Event) (nu : List Text) → length plan.variables ≤ length nu →
       AreKept log nu [] items (props_at plan.subs plan.props)
 
--- the sizes of the monitor are within the limits
-pub record HasSizes (limits : Limits) (m : monitor.State) : Type 0 where
-  pub bits : m.bits ≡ limits.bits
-  pub nodes : m.shelf.table.room ≡ limits.nodes
-  pub cache : m.shelf.memo.entries ≡ limits.cache
+-- the sizes of the monitor are those that the job asks for
+pub record HasSizes (job : Job) (m : monitor.State) : Type 0 where
+  pub bits : m.bits ≡ job.bits
+  pub nodes : m.shelf.table.room ≡ job.nodes
+  pub cache : m.shelf.memo.entries ≡ job.cache
 
 -- the monitor stands for these events, which are a log, and is as each live monitor is
 pub record StandsFor (m : monitor.State) (log : List Event) : Type 0 where
@@ -56,14 +56,15 @@ pub record StandsFor (m : monitor.State) (log : List Event) : Type 0 where
   pub stands : monitor.Stands m log
   pub judged : 1 ≤ length log → m.has_now ≡ true
 
--- The judge has judged these events, at each of which codes and nodes sufficed, with these
--- verdicts: its monitor stands for them, and it has counted them.
-pub record HasJudged (limits : Limits) (items : List Item) (log : List Event)
+-- The judge of this job has judged these events, at each of which codes and nodes sufficed, with
+-- these verdicts: its monitor stands for them, and it has counted them.
+pub record HasJudged (job : Job) (items : List Item) (log : List Event)
     (rows : List (List Verdict)) (judge : Judge) : Type 0 where
   pub plan : IsPlanOf items judge.monitor.plan
-  pub sizes : HasSizes limits judge.monitor
+  pub sizes : HasSizes job judge.monitor
+  pub shows : judge.shows_true ≡ job.all
   pub stands : StandsFor judge.monitor log
-  pub fits : AllFit (ComesAt limits items) log
+  pub fits : AllFit (ComesAt job items) log
   pub right : AreVerdicts log items rows
   pub events : judge.events ≡ length log
   pub violations : judge.violations ≡ false_count rows
@@ -74,8 +75,9 @@ pub record IsReady (j : Judge) : Type 0 where
   pub events : j.monitor.events ≡ j.events
   pub fewer : j.violations ≤ 4096 * j.events
 
--- plan and sizes stay
+-- plan and sizes stay, and what is shown
 pub record KeepsPlan (old new : Judge) : Type 0 where
+  pub shows : new.shows_true ≡ old.shows_true
   pub plan : new.monitor.plan ≡ old.monitor.plan
   pub bits : new.monitor.bits ≡ old.monitor.bits
   pub room : new.monitor.shelf.table.room ≡ old.monitor.shelf.table.room

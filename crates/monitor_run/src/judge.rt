@@ -1,4 +1,4 @@
-//! The judge of the properties: it takes the events one by one, keeps none, and writes a line for each false verdict.
+//! The judge of the properties: it takes the events one by one, keeps none, and writes what their verdicts write.
 ghost use Rattle.std.specs.Prelude.{◌≡◌, ◌+◌, ◌*◌, ◌^◌, ◌<◌, ◌≤◌, ◌++◌, List, length, map, true, IfErr, OnOk, OnErr, IfOk};
 ghost use Rattle.std.specs.List.{AllByRecursion};
 ghost use Rattle.bdd_ops.specs.Shelf.{IsLarge};
@@ -6,48 +6,43 @@ ghost use Rattle.mon_base.specs.Causes.{HasCause, Rose};
 ghost use Rattle.mon_base.specs.Told.{AppendsFront};
 ghost use Rattle.qtl_truth.specs.Truth.{IsEvent, IsText};
 ghost use Rattle.qtl_truth.specs.declared.event.Event.{Event as TheEvent};
+ghost use Rattle.report.specs.Lines.{event_lines};
 ghost use Rattle.report.specs.Passing.{Passes};
-ghost use Rattle.monitor_run.specs.Judging.{Judges, WritesEvent, as_false_one, false_lines, false_ones, halt_of_step, judge_bound, witness_bound};
+ghost use Rattle.monitor_run.specs.Judging.{Judges, WritesEvent, halt_of_step, judge_bound, witness_bound, witnesses_in};
 ghost use Rattle.monitor_run.specs.Reading.{HasCutCause, HasReadCause};
-ghost use Rattle.monitor_run.specs.Standing.{IsReady, KeepsPlan, StandsFor, row_of};
+ghost use Rattle.monitor_run.specs.Standing.{IsReady, KeepsPlan, StandsFor, names_in, row_of};
 
 use mon_base::{Failed, NoMemory, Sink, Steps};
 use monitor_step::{Monitor, StepEnd};
 use qtl_syntax::Text;
 use qtl_truth::Event;
-use report::{Output, Shown, put_violation};
+use report::{Output, Shown, put_holds, put_violation};
 use run_model::{Halt, LogStop, Loss};
 use std::alloc::Global;
 use std::sync::ledger::Ledger;
-use subformulas::Plan;
 use witness::find;
-
-/// A false verdict on a property, counted from 0, and its witness.
-#[derive(Drop)]
-pub struct Violation {
-    pub property: u32,
-    pub witness: Vec<Shown>,
-}
 
 /// The monitor of the properties, and what was counted so far.
 #[derive(Drop)]
 pub struct Judge {
     pub alloc: Global,
     pub monitor: Monitor,
+    /// Whether true verdicts are written too.
+    pub shows_true: bool,
     pub events: u64,
     pub violations: u64,
 }
 
-/// The violations at the event that the monitor took last, in order of the properties.
-fn find_violations<L: Ledger>(
+/// The witnesses of the false verdicts at the event that the monitor took last, in order of the properties.
+fn find_witnesses<L: Ledger>(
     alloc: Global,
     monitor: &Monitor,
     steps: &mut Steps<L>,
-) -> Result<Vec<Violation>, NoMemory>
+) -> Result<Vec<Vec<Shown>>, NoMemory>
     requires live { monitor.now.live ≡ true }
     requires some { 1 ≤ monitor.now.events }
     ensures are { IfOk result (λ found.
-        map as_false_one found.items ≡ false_ones 0 (row_of monitor.now)) }
+        map (λ w. w.items) found.items ≡ witnesses_in (row_of monitor.now)) }
     ensures cost { steps.new ≤ steps.old + witness_bound monitor.now }
 {
     let plan = monitor.plan();
@@ -55,37 +50,47 @@ fn find_violations<L: Ledger>(
     for p in 0..plan.props() {
         if !monitor.verdict(p) {
             let witness = find(alloc, monitor, p, steps)?;
-            found.push(Violation {
-                property: p,
-                witness,
-            })?;
+            found.push(witness)?;
         }
     }
     Ok(found)
 }
 
-/// Writes the lines of these violations at this event.
-fn put_violations<W: Sink>(
+/// Writes what the verdicts at the event that the monitor took last write, property by property. The witnesses are those of
+/// the false ones.
+fn put_verdicts<W: Sink>(
     output: &mut Output,
     out: &mut W,
     event: u64,
-    plan: &Plan,
-    violations: &[Violation],
+    monitor: &Monitor,
+    shows_true: bool,
+    witnesses: &[Vec<Shown>],
 ) -> Result<(), Failed>
-    requires known { AllByRecursion (λ v. v.property < length plan.now.props) violations.now }
+    requires live { monitor.now.live ≡ true }
+    requires some { 1 ≤ monitor.now.events }
+    requires are { map (λ w. w.items) witnesses.now ≡ witnesses_in (row_of monitor.now) }
     ensures ok { OnOk result (Passes (W.written out.old) (W.written out.new) output.old output.new
-        (false_lines event (map (λ q. q.name) plan.now.props) (map as_false_one violations.now))) }
-    ensures err { OnErr result (AppendsFront (W.written out.old) (W.written out.new)
-        (output.old ++ false_lines event (map (λ q. q.name) plan.now.props)
-        (map as_false_one violations.now))) }
+        (event_lines shows_true event (names_in monitor.now) (row_of monitor.now))) }
+    ensures err { OnErr result (AppendsFront (W.written out.old) (W.written out.new) (output.old
+        ++ event_lines shows_true event (names_in monitor.now) (row_of monitor.now))) }
     ensures cause { HasCause (W.faults out.old) (W.faults out.new) result }
 {
-    let Some((first, later)) = violations.split_first() else {
+    // Most events have nothing to write.
+    if witnesses.is_empty() && !shows_true {
         return Ok(());
-    };
-    let name = plan.prop_name(first.property);
-    put_violation(output, out, event, name, first.witness.as_slice())?;
-    put_violations(output, out, event, plan, later)
+    }
+    let plan = monitor.plan();
+    let mut next = 0;
+    for p in 0..plan.props() {
+        let name = plan.prop_name(p);
+        if !monitor.verdict(p) {
+            put_violation(output, out, event, name, witnesses[next].as_slice())?;
+            next += 1;
+        } else if shows_true {
+            put_holds(output, out, event, name)?;
+        }
+    }
+    Ok(())
 }
 
 /// How a run gives up whose event of this number the monitor refuses.
@@ -130,7 +135,7 @@ fn is_event(event: &Event)
     let _time = event.time;
 }
 
-/// Judges the next event, and writes its violations. After an error the judge takes no event more.
+/// Judges the next event, and writes what its verdicts write. After an error the judge takes no event more.
 pub fn judge_event<W: Sink, L: Ledger>(
     judge: &mut Judge,
     event: &Event,
@@ -164,15 +169,15 @@ pub fn judge_event<W: Sink, L: Ledger>(
     // properties.
     let _live = judge.monitor.is_live();
     let _rows = judge.monitor.plan().count();
-    let violations = match find_violations(judge.alloc, &judge.monitor, steps) {
-        Ok(violations) => violations,
+    let found = match find_witnesses(judge.alloc, &judge.monitor, steps) {
+        Ok(found) => found,
         Err(_) => return Err(Halt::Lost(Loss::Starved)),
     };
     judge.events += 1;
-    let plan = judge.monitor.plan();
-    match put_violations(output, out, judge.events, plan, violations.as_slice()) {
+    let witnesses = found.as_slice();
+    match put_verdicts(output, out, judge.events, &judge.monitor, judge.shows_true, witnesses) {
         Ok(()) => {
-            judge.violations += violations.len() as u64;
+            judge.violations += found.len() as u64;
             Ok(())
         }
         Err(_) => Err(Halt::Lost(Loss::Cut)),

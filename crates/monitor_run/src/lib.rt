@@ -4,14 +4,15 @@
 mod judge;
 mod last;
 mod log;
+mod origin;
 mod piece;
 mod session;
 mod specification;
 mod top;
 
 pub use report::Which;
-pub use run_model::{End, Limits, MAX_SPEC, Outcome};
-pub use top::{run, run_within};
+pub use run_model::{End, MAX_SPEC, Outcome};
+pub use top::run;
 
 #[cfg(test)]
 mod rows;

@@ -8,14 +8,14 @@ ghost use Rattle.log_reader.specs.Standing.{Stands, fresh_reading};
 ghost use Rattle.monitor_run.specs.Judging.{Spends, judge_bound};
 ghost use Rattle.monitor_run.specs.Reading.{Halted, HasCutCause, HasReadCause, IsFed, IsFedWithin, IsUnread, ReadsAll};
 ghost use Rattle.monitor_run.specs.Standing.{HasJudged, IsReady, KeepsPlan, has_times};
-ghost use Rattle.run_model.specs.declared.limits.Limits as declared;
+ghost use Rattle.run_model.specs.Job.{Job};
 
 use crate::judge::Judge;
 use crate::piece::judge_fed;
 use log_reader::LogReader;
 use mon_base::{Sink, Source, Steps};
 use report::Output;
-use run_model::{Halt, Limits, LogStop, Loss};
+use run_model::{Halt, LogStop, Loss};
 use std::sync::ledger::Ledger;
 
 /// How many bytes a read asks for: as many as there is room for, and at most so many.
@@ -92,21 +92,21 @@ fn take_turn<S: Source, W: Sink, L: Ledger>(
     ensures length { length room.new ≡ length room.old }
     ensures most { IfOk result (λ n. n ≤ most) }
     ensures on { OnOk result (reader.new.ended ≡ false) }
-    ensures ok { IfOk result (λ n. (limits : declared.Limits) (items : List tree.Item)
+    ensures ok { IfOk result (λ n. (job : Job) (items : List tree.Item)
         (all : tree.Text)
-        (sent : Option tree.Text) (given : tree.Text) → length given + most ≤ limits.log →
-        ReadsAll limits items all (S.left source.old) sent (W.written out.old) given false judge.old
+        (sent : Option tree.Text) (given : tree.Text) → length given + most ≤ job.limit →
+        ReadsAll job items all (S.left source.old) sent (W.written out.old) given false judge.old
         reader.old output.old →
         (more : tree.Text) × (length more ≡ n)
-        × ReadsAll limits items all (S.left source.new) sent (W.written out.new) (given ++ more)
+        × ReadsAll job items all (S.left source.new) sent (W.written out.new) (given ++ more)
         false judge.new reader.new output.new) }
     ensures ended { IfOk result (λ n. n ≡ 0 → IsAtEnd (S.left source.new)) }
-    ensures err { IfErr result (λ halt. (limits : declared.Limits) (items : List tree.Item)
+    ensures err { IfErr result (λ halt. (job : Job) (items : List tree.Item)
         (all : tree.Text)
-        (sent : Option tree.Text) (given : tree.Text) → length given + most ≤ limits.log →
-        ReadsAll limits items all (S.left source.old) sent (W.written out.old) given false judge.old
+        (sent : Option tree.Text) (given : tree.Text) → length given + most ≤ job.limit →
+        ReadsAll job items all (S.left source.old) sent (W.written out.old) given false judge.old
         reader.old output.old →
-        Halted limits items all (S.left source.new) sent (W.written out.new) output.new judge.new
+        Halted job items all (S.left source.new) sent (W.written out.new) output.new judge.new
         reader.new.given halt) }
     ensures fed { IfOk result (λ n. (count : ℕ) →
         IsFed count reader.old judge.old.monitor.last_time →
@@ -152,11 +152,11 @@ fn end_log<W: Sink, L: Ledger>(
     requires fed { IsFedWithin 281474976710656 reader.old judge.old.monitor.last_time }
     requires events { judge.old.events ≡ reader.old.given }
     requires ready { IsReady judge.old }
-    ensures halted { (limits : declared.Limits) (items : List tree.Item) (all : tree.Text)
+    ensures halted { (job : Job) (items : List tree.Item) (all : tree.Text)
         (left : Option tree.Text) (sent : Option tree.Text) (given : tree.Text) →
-        ReadsAll limits items all left sent (W.written out.old) given false judge.old reader.old
+        ReadsAll job items all left sent (W.written out.old) given false judge.old reader.old
         output.old → IsAtEnd left →
-        Halted limits items all left sent (W.written out.new) output.new judge.new reader.new.given
+        Halted job items all left sent (W.written out.new) output.new judge.new reader.new.given
         result }
     ensures plan { KeepsPlan judge.old judge.new }
     ensures cause { HasCutCause (Rose (W.faults out.old) (W.faults out.new)) result }
@@ -184,19 +184,19 @@ fn past_limit<S: Source, W: Sink, L: Ledger>(
     output: &mut Output,
     out: &mut W,
     steps: &mut Steps<L>,
-    limits: Limits,
+    limit: u64,
 ) -> Halt<LogStop>
     requires room { 0 < length room.old }
     requires on { reader.old.ended ≡ false }
     requires fed { IsFedWithin 281474976710656 reader.old judge.old.monitor.last_time }
     requires events { judge.old.events ≡ reader.old.given }
     requires ready { IsReady judge.old }
-    ensures halted { (items : List tree.Item) (all : tree.Text) (sent : Option tree.Text)
-        (given : tree.Text) →
-        ReadsAll limits items all (S.left source.old) sent (W.written out.old) given false judge.old
+    ensures halted { (job : Job) (items : List tree.Item) (all : tree.Text)
+        (sent : Option tree.Text) (given : tree.Text) → job.limit ≡ limit →
+        ReadsAll job items all (S.left source.old) sent (W.written out.old) given false judge.old
         reader.old output.old →
-        length given ≡ limits.log →
-        Halted limits items all (S.left source.new) sent (W.written out.new) output.new judge.new
+        length given ≡ limit →
+        Halted job items all (S.left source.new) sent (W.written out.new) output.new judge.new
         reader.new.given result }
     ensures plan { KeepsPlan judge.old judge.new }
     ensures cause { HasCutCause (Rose (W.faults out.old) (W.faults out.new)) result }
@@ -211,12 +211,12 @@ fn past_limit<S: Source, W: Sink, L: Ledger>(
 {
     match fetch(room, source, output, out, 1) {
         Ok(0) => end_log(judge, reader, output, out, steps),
-        Ok(_) => Halt::At(LogStop::Long { limit: limits.log }),
+        Ok(_) => Halt::At(LogStop::Long { limit }),
         Err(halt) => halt,
     }
 }
 
-/// Reads at most as many bytes of the log as the limits have it, and judges their events. Each read asks for as many bytes as
+/// Reads at most `limit` bytes of the log, and judges their events. Each read asks for as many bytes as
 /// `room` has.
 pub fn read_log<S: Source, W: Sink, L: Ledger>(
     judge: &mut Judge,
@@ -226,7 +226,7 @@ pub fn read_log<S: Source, W: Sink, L: Ledger>(
     output: &mut Output,
     out: &mut W,
     steps: &mut Steps<L>,
-    limits: Limits,
+    limit: u64,
 ) -> Halt<LogStop>
     requires fresh { reader.old ≡ fresh_reading (has_times judge.old.monitor.plan) }
     requires stands { Stands [] reader.old }
@@ -235,11 +235,10 @@ pub fn read_log<S: Source, W: Sink, L: Ledger>(
     requires time { judge.old.monitor.last_time ≡ 0 }
     requires ready { IsReady judge.old }
     requires nothing { output.old ≡ [] }
-    requires small { limits.log ≤ 281474976710656 }
-    ensures halted { (items : List tree.Item) (all : tree.Text) →
-        HasJudged limits items [] [] judge.old →
-        S.left source.old ≡ Some all →
-        Halted limits items all (S.left source.new) (W.written out.old) (W.written out.new)
+    requires small { limit ≤ 281474976710656 }
+    ensures halted { (job : Job) (items : List tree.Item) (all : tree.Text) → job.limit ≡ limit →
+        HasJudged job items [] [] judge.old → S.left source.old ≡ Some all →
+        Halted job items all (S.left source.new) (W.written out.old) (W.written out.new)
         output.new judge.new reader.new.given result }
     ensures plan { KeepsPlan judge.old judge.new }
     ensures cause { HasCutCause (Rose (W.faults out.old) (W.faults out.new)) result }
@@ -252,13 +251,13 @@ pub fn read_log<S: Source, W: Sink, L: Ledger>(
     ensures idle { reader.new.given ≡ 0 → steps.new ≡ steps.old }
 {
     let mut taken: u64 = 0;
-    'pieces: while taken < limits.log {
-        let most = limits.log - taken;
+    'pieces: while taken < limit {
+        let most = limit - taken;
         match take_turn(judge, reader, room, source, output, out, steps, most) {
             Ok(0) => return end_log(judge, reader, output, out, steps),
             Ok(count) => taken += count as u64,
             Err(halt) => return halt,
         }
     }
-    past_limit(judge, reader, room, source, output, out, steps, limits)
+    past_limit(judge, reader, room, source, output, out, steps, limit)
 }

@@ -7,7 +7,7 @@ ghost use Rattle.monitor_run.specs.Judging.{Spends, judge_bound};
 ghost use Rattle.monitor_run.specs.Opening.{halt_of_record};
 ghost use Rattle.monitor_run.specs.Reading.{Halted, HasCutCause, HasReadCause, IsFed, IsFedWithin, Reads, ReadsAll};
 ghost use Rattle.monitor_run.specs.Standing.{IsReady, KeepsPlan};
-ghost use Rattle.run_model.specs.declared.limits.Limits as declared;
+ghost use Rattle.run_model.specs.Job.{Job};
 
 use crate::judge::{Judge, judge_event};
 use log_reader::{LogFault, LogReader, times_never_fall};
@@ -37,18 +37,18 @@ pub fn judge_fed<W: Sink, L: Ledger>(
     requires fed { IsFedWithin 281474976710656 reader.old judge.old.monitor.last_time }
     requires events { judge.old.events ≡ reader.old.given }
     requires ready { IsReady judge.old }
-    ensures ok { OnOk result ((limits : declared.Limits) (items : List tree.Item) (all : tree.Text)
+    ensures ok { OnOk result ((job : Job) (items : List tree.Item) (all : tree.Text)
         (left : Option tree.Text) (sent : Option tree.Text) (given : tree.Text) (ended : Bool) →
-        Reads limits items all left sent (W.written out.old) given ended judge.old reader.old
+        Reads job items all left sent (W.written out.old) given ended judge.old reader.old
         output.old →
-        ReadsAll limits items all left sent (W.written out.new) given ended judge.new reader.new
+        ReadsAll job items all left sent (W.written out.new) given ended judge.new reader.new
         output.new) }
-    ensures err { IfErr result (λ halt. (limits : declared.Limits) (items : List tree.Item)
+    ensures err { IfErr result (λ halt. (job : Job) (items : List tree.Item)
         (all : tree.Text)
         (left : Option tree.Text) (sent : Option tree.Text) (given : tree.Text) (ended : Bool) →
-        Reads limits items all left sent (W.written out.old) given ended judge.old reader.old
+        Reads job items all left sent (W.written out.old) given ended judge.old reader.old
         output.old →
-        Halted limits items all left sent (W.written out.new) output.new judge.new reader.new.given
+        Halted job items all left sent (W.written out.new) output.new judge.new reader.new.given
         halt) }
     ensures fed { OnOk result ((count : ℕ) → IsFed count reader.old judge.old.monitor.last_time →
         IsFed count reader.new judge.new.monitor.last_time) }

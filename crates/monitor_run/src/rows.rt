@@ -3,9 +3,6 @@
 /// A name, a specification and a log, the report, and the status.
 pub type Case = (&'static str, &'static str, &'static str, &'static str, u8);
 
-/// Bits of a code, nodes, and bytes of the log.
-pub type Size = (u8, u32, u64);
-
 pub const SINCE: &str = "prop r : (! stop(\"a\")) S go(\"a\")\n";
 
 /// Who accesses logged in, and didn't log out since.
@@ -312,11 +309,11 @@ pub const QUANTIFIED: &[Case] = &[
     ),
 ];
 
-/// Runs of small sizes: a code that is used again, one that isn't to be had, a row that has too few nodes, and a log that is
-/// longer than its limit.
-pub const SMALL: &[(Size, Case)] = &[
+/// Runs with options: a code that is used again, one that isn't to be had, a row that has too few nodes, a log that is longer
+/// than its limit, and true verdicts.
+pub const OPTIONS: &[(&str, Case)] = &[
     (
-        (1, 1_000, 1_000),
+        "--bits=1 --nodes=1000 --cache=4000",
         (
             "a code is used again",
             ACCESS,
@@ -326,7 +323,7 @@ pub const SMALL: &[(Size, Case)] = &[
         ),
     ),
     (
-        (1, 1_000, 1_000),
+        "--bits=1 --nodes=1000 --cache=4000",
         (
             "no code is left",
             ACCESS,
@@ -336,7 +333,7 @@ pub const SMALL: &[(Size, Case)] = &[
         ),
     ),
     (
-        (1, 1_000, 1_000),
+        "--bits=1 --nodes=1000 --cache=4000",
         (
             "codes are used again and again",
             ACCESS,
@@ -346,7 +343,7 @@ pub const SMALL: &[(Size, Case)] = &[
         ),
     ),
     (
-        (1, 1_000, 1_000),
+        "--bits=1 --nodes=1000 --cache=4000",
         (
             "any other text needs no code",
             "prop q : exists x . ! P p(x)",
@@ -356,7 +353,7 @@ pub const SMALL: &[(Size, Case)] = &[
         ),
     ),
     (
-        (2, 2, 1_000),
+        "--bits=2 --nodes=2 --cache=4000",
         (
             "two nodes are too few",
             "prop r : exists x . P p(x)",
@@ -366,7 +363,7 @@ pub const SMALL: &[(Size, Case)] = &[
         ),
     ),
     (
-        (2, 3, 1_000),
+        "--bits=2 --nodes=3 --cache=4000",
         (
             "three nodes suffice",
             "prop r : exists x . P p(x)",
@@ -376,7 +373,7 @@ pub const SMALL: &[(Size, Case)] = &[
         ),
     ),
     (
-        (2, 3, 1_000),
+        "--bits=2 --nodes=3 --cache=4000",
         (
             "three nodes are too few for two values",
             "prop r : exists x . P p(x)",
@@ -386,7 +383,7 @@ pub const SMALL: &[(Size, Case)] = &[
         ),
     ),
     (
-        (2, 5, 1_000),
+        "--bits=2 --nodes=5 --cache=4000",
         (
             "five nodes for three values",
             "prop r : exists x . P p(x)",
@@ -396,7 +393,7 @@ pub const SMALL: &[(Size, Case)] = &[
         ),
     ),
     (
-        (1, 1_000, 1_000),
+        "--bits=1 --nodes=1000 --cache=4000",
         (
             "lines before codes are full",
             "prop a : false prop v : forall thing . P p(thing)",
@@ -406,7 +403,7 @@ pub const SMALL: &[(Size, Case)] = &[
         ),
     ),
     (
-        (8, 1_000, 4),
+        "--bits=8 --nodes=1000 --cache=4000 --limit=4",
         (
             "a limit within the first record",
             SINCE,
@@ -416,7 +413,7 @@ pub const SMALL: &[(Size, Case)] = &[
         ),
     ),
     (
-        (8, 1_000, 11),
+        "--bits=8 --nodes=1000 --cache=4000 --limit=11",
         (
             "a limit one byte before the end",
             SINCE,
@@ -426,12 +423,92 @@ pub const SMALL: &[(Size, Case)] = &[
         ),
     ),
     (
-        (8, 1_000, 12),
+        "--bits=8 --nodes=1000 --cache=4000 --limit=12",
         (
             "a limit at the end",
             SINCE,
             "go,a\nstop,a\n",
             "violation 2 r\nevents 2 violations 1\n",
+            1,
+        ),
+    ),
+    (
+        "--bits=1 --nodes=1000 --cache=4000",
+        (
+            "an age tells a value apart",
+            "prop t : forall x . ack(x) -> P[<=10] req(x)",
+            "req,a,0\nreq,b,5\n",
+            "stopped: codes full at event 2, variable 0 (x), need 2\n",
+            5,
+        ),
+    ),
+    (
+        "--bits=1 --nodes=1000 --cache=4000",
+        (
+            "until it is too old",
+            "prop t : forall x . ack(x) -> P[<=10] req(x)",
+            "req,a,0\ntick,20\nreq,b,21\nack,b,31\nack,b,32\n",
+            "violation 5 t x=\"b\"\nevents 5 violations 1\n",
+            1,
+        ),
+    ),
+    (
+        "--bits=8 --nodes=1000 --cache=4000 --all",
+        (
+            "true verdicts too",
+            ACCESS,
+            "access,bob\nlogin,ann\n",
+            "violation 1 access u=\"bob\"\nholds 2 access\nevents 2 violations 1\n",
+            1,
+        ),
+    ),
+    (
+        "--all --bits=8 --nodes=1000 --cache=4000",
+        (
+            "true verdicts among false ones",
+            "prop r : P go prop s : forall x . ! went(x) prop t : stop",
+            "go\nwent,a\nstop\n",
+            "holds 1 r\nholds 1 s\nviolation 1 t\nholds 2 r\nviolation 2 s x=\"a\"\nviolation 2 t\nholds 3 r\nholds 3 s\nholds 3 t\nevents 3 violations 3\n",
+            1,
+        ),
+    ),
+    (
+        "--bits=8 --nodes=1000 --cache=4000 --all",
+        (
+            "true verdicts before a faulty record",
+            "prop r : P go",
+            "go\n\"a",
+            "holds 1 r\nstopped: quote not closed at record 2\n",
+            4,
+        ),
+    ),
+    (
+        "--bits=8 --nodes=1000 --cache=4000 --sample=7,6",
+        (
+            "a sample in place of a log",
+            "prop a : forall u . access(u) -> P login(u) prop l : ! exists u . login(u) & @ true",
+            "",
+            "violation 5 l\nevents 6 violations 1\n",
+            1,
+        ),
+    ),
+    (
+        "--bits=8 --nodes=1000 --cache=4000 --sample=7,6 --limit=20",
+        (
+            "a sample that is longer than its limit",
+            "prop l : exists u . login(u)",
+            "",
+            "violation 2 l\nstopped: log longer than 20 bytes\n",
+            4,
+        ),
+    ),
+    (
+        "--bits=8 --nodes=1000 --cache=4000 --sample=7,6",
+        (
+            "a sample with times",
+            "prop l : P[<=4] exists u . login(u) prop m : P[<=1] exists u . login(u)",
+            "",
+            "violation 3 m\nviolation 4 m\nevents 6 violations 2\n",
             1,
         ),
     ),

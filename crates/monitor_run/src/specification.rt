@@ -1,8 +1,9 @@
 //! The judge of a specification file.
-ghost use Rattle.std.specs.Prelude.{◌≡◌, ◌+◌, ◌^◌, ◌<◌, ◌≤◌, ℕ, List, length, vec_len, IfOk, IfErr, IfSome, IsErrOf};
+ghost use Rattle.std.specs.Prelude.{◌≡◌, ◌+◌, ◌^◌, ◌<◌, ◌≤◌, ℕ, List, length, vec_len, IfOk, IfErr, IfSome, IsErrOf, string_bytes};
 ghost use Rattle.std.specs.Io.KnownBytes.{Consumes, IsAtEnd};
 ghost use Rattle.mon_base.specs.Causes.{Rose};
-ghost use Rattle.run_model.specs.Limits.{AreLawful};
+ghost use Rattle.settings.specs.Asked.{asked_by};
+ghost use Rattle.settings.specs.Numbers.{AreLawful};
 ghost use Rattle.run_model.specs.Uses.{Use};
 ghost use Rattle.monitor_run.specs.Opening.{AreTold, AsksSpec, HasSpecCause, IsSpelled, IsUnspelled, SpecIs, SpecRead, SpecRefused, StopsReading, halt_of_fault, halt_of_names};
 ghost use Rattle.monitor_run.specs.Standing.{IsReady};
@@ -11,7 +12,8 @@ use crate::judge::Judge;
 use mon_base::{Files, NoMemory, OpenEnd, Source};
 use monitor_step::{Monitor, Sizes};
 use qtl_syntax::{SpecFault, parse};
-use run_model::{Halt, Limits, Loss, MAX_SPEC, SpecStop};
+use run_model::{Halt, Loss, MAX_SPEC, SpecStop};
+use settings::Settings;
 use std::alloc::Global;
 use subformulas::make_plan;
 use wellformed::{NameFault, check, short_texts_have_few_nodes, short_texts_have_few_terms};
@@ -126,10 +128,11 @@ fn halt_of_names(fault: NameFault) -> Halt<SpecStop>
 }
 
 /// The judge of the properties that the text spells, which are to be accepted.
-fn judge_in(alloc: Global, text: &[u8], limits: Limits) -> Result<Judge, Halt<SpecStop>>
-    requires lawful { AreLawful limits }
+fn judge_in(alloc: Global, text: &[u8], settings: &Settings) -> Result<Judge, Halt<SpecStop>>
+    requires lawful { AreLawful settings.now.bits settings.now.nodes settings.now.cache
+        settings.now.limit }
     requires short { length text.now ≤ 1048576 }
-    ensures ok { IfOk result (λ judge. IsSpelled limits text.now judge) }
+    ensures ok { IfOk result (λ judge. IsSpelled (asked_by settings.now) text.now judge) }
     ensures fresh { IfOk result (λ judge. judge.events ≡ 0) }
     ensures time { IfOk result (λ judge. judge.monitor.last_time ≡ 0) }
     ensures ready { IfOk result IsReady }
@@ -152,9 +155,9 @@ fn judge_in(alloc: Global, text: &[u8], limits: Limits) -> Result<Judge, Halt<Sp
     // A law, for a condition of `Monitor::open`.
     short_texts_have_few_terms();
     let sizes = Sizes {
-        bits: limits.bits,
-        nodes: limits.nodes,
-        cache: limits.cache,
+        bits: settings.bits,
+        nodes: settings.nodes,
+        cache: settings.cache,
     };
     // A law, for what holds of each plan.
     let _rows = plan.count();
@@ -165,6 +168,7 @@ fn judge_in(alloc: Global, text: &[u8], limits: Limits) -> Result<Judge, Halt<Sp
             Ok(Judge {
                 alloc,
                 monitor,
+                shows_true: settings.all,
                 events: 0,
                 violations: 0,
             })
@@ -173,21 +177,21 @@ fn judge_in(alloc: Global, text: &[u8], limits: Limits) -> Result<Judge, Halt<Sp
     }
 }
 
-/// The judge of the specification file of this name.
+/// The judge of the specification file that the settings name.
 pub fn read_specification<F: Files>(
     alloc: Global,
-    name: &str,
+    settings: &Settings,
     files: &mut F,
-    limits: Limits,
 ) -> Result<Judge, Halt<SpecStop>>
-    requires lawful { AreLawful limits }
-    ensures ok { IfOk result (λ judge. SpecRead limits (F.texts files.old) name.now judge) }
+    requires lawful { AreLawful settings.now.bits settings.now.nodes settings.now.cache
+        settings.now.limit }
+    ensures ok { IfOk result (λ judge. SpecRead (asked_by settings.now) (F.texts files.old) judge) }
     ensures fresh { IfOk result (λ judge. judge.events ≡ 0) }
     ensures time { IfOk result (λ judge. judge.monitor.last_time ≡ 0) }
     ensures ready { IfOk result IsReady }
     ensures err { IfErr result (λ halt. IfSome (F.texts files.old)
-        (λ texts. SpecRefused texts name.now halt)) }
-    ensures uses { (uses : List Use) × AsksSpec name.now result uses
+        (λ texts. SpecRefused texts (string_bytes settings.now.spec) halt)) }
+    ensures uses { (uses : List Use) × AsksSpec (string_bytes settings.now.spec) result uses
         × AreTold (F.texts files.old) uses (F.opened files.old) (F.opened files.new)
         (F.hurt files.old) (F.hurt files.new) (F.unread files.old) (F.unread files.new) }
     ensures cause { IfErr result
@@ -196,9 +200,9 @@ pub fn read_specification<F: Files>(
     ensures lent { F.lent files.new ≡ F.lent files.old }
     ensures later { F.faults files.old ≤ F.faults files.new }
 {
-    let text = match read_spec(alloc, name, files) {
+    let text = match read_spec(alloc, settings.spec.as_str(), files) {
         Ok(text) => text,
         Err(halt) => return Err(halt),
     };
-    judge_in(alloc, text.as_slice(), limits)
+    judge_in(alloc, text.as_slice(), settings)
 }

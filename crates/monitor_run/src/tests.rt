@@ -1,14 +1,13 @@
 //! Runs over memory.
 ghost use Rattle.std.specs.Prelude.{◌≡◌, ◌≤◌, ◌<◌, All, IfOk};
-ghost use Rattle.run_model.specs.Limits.{AreLawful};
 
 use crate::rows::{
-    Case, FORMS, NAME_FAULTS, PROPERTIES, QUANTIFIED, RECORD_FAULTS, SINCE, SMALL, SPEC_FAULTS,
-    Size, TIME_FAULTS, TIMED,
+    ACCESS, Case, FORMS, NAME_FAULTS, OPTIONS, PROPERTIES, QUANTIFIED, RECORD_FAULTS, SINCE,
+    SPEC_FAULTS, TIME_FAULTS, TIMED,
 };
-use crate::{run, run_within};
+use crate::run;
 use mon_base::{MemFile, MemFiles, MemSink, NoMemory, Steps};
-use run_model::{End, Limits, Outcome};
+use run_model::{End, Outcome};
 use std::alloc::Global;
 use std::marker::Brand;
 use std::sync::ledger::{Blank, Ledger};
@@ -61,59 +60,24 @@ fn files_of(alloc: Global, spec: MemFile, log: MemFile) -> Result<MemFiles, NoMe
     Ok(MemFiles::new(alloc, files))
 }
 
-/// Sizes that suffice where a test says nothing else.
-const AMPLE: Size = (8, 1_000, 1_000_000);
+/// Sizes that suffice where a test says nothing else, and are quickly taken.
+const AMPLE: &str = "--bits=8 --nodes=1000 --cache=4000";
 
-/// The limits of these sizes; the usual ones where they aren't lawful.
-fn limits_of(size: Size) -> Limits
-    ensures { AreLawful result }
-{
-    let (bits, nodes, log) = size;
-    if bits < 1 || bits > 20 || nodes < 2 || nodes > 2_000 || log > 1_000_000_000 {
-        return Limits::usual();
+/// The words of a command line: options with a space between them, and then the others.
+fn words_of(alloc: Global, options: &str, others: &[&str]) -> Result<Vec<String>, NoMemory> {
+    let mut words = Vec::new(alloc);
+    for word in options.split(' ') {
+        if !word.is_empty() {
+            words.push(String::from_str(alloc, word)?)?;
+        }
     }
-    Limits {
-        bits,
-        nodes,
-        cache: 4_000,
-        log,
+    for word in others {
+        words.push(String::from_str(alloc, word)?)?;
     }
+    Ok(words)
 }
 
 fn run_in<L: Ledger>(
-    alloc: Global,
-    limits: Limits,
-    words: &[String],
-    files: &mut MemFiles,
-    out: &mut MemSink,
-    blank: Blank,
-) -> Outcome
-    requires lawful { AreLawful limits }
-    requires name { blank.name ≡ L.name }
-    requires parts { blank.parts ≡ L.parts }
-    requires some { 0 < L.parts }
-{
-    let mut steps = Steps::<L>::new(blank);
-    run_within(alloc, limits, words, files, out, &mut steps)
-}
-
-/// The outcome of a run of these sizes over these files.
-fn run_over(
-    alloc: Global,
-    size: Size,
-    words: &[&str],
-    files: &mut MemFiles,
-    out: &mut MemSink,
-) -> Result<Outcome, NoMemory> {
-    let mut names = Vec::new(alloc);
-    for word in words {
-        names.push(String::from_str(alloc, word)?)?;
-    }
-    let limits = limits_of(size);
-    Ok(run_in::<Brand>(alloc, limits, names.as_slice(), files, out, Blank::new(1)))
-}
-
-fn usual_run_in<L: Ledger>(
     alloc: Global,
     words: &[String],
     files: &mut MemFiles,
@@ -128,22 +92,40 @@ fn usual_run_in<L: Ledger>(
     run(alloc, words, files, out, &mut steps)
 }
 
-/// Whether a run of this size gives this report and status, where the files give their bytes in such pieces.
-fn gives(alloc: Global, size: Size, case: &Case, piece: usize) -> Result<bool, NoMemory>
+/// The outcome of a run with these options and words over these files.
+fn run_over(
+    alloc: Global,
+    options: &str,
+    others: &[&str],
+    files: &mut MemFiles,
+    out: &mut MemSink,
+) -> Result<Outcome, NoMemory> {
+    let words = words_of(alloc, options, others)?;
+    Ok(run_in::<Brand>(alloc, words.as_slice(), files, out, Blank::new(1)))
+}
+
+/// Whether a run with these options gives this report and status, where the files give their bytes in such pieces.
+fn gives(alloc: Global, options: &str, case: &Case, piece: usize) -> Result<bool, NoMemory>
     requires { 1 ≤ piece }
 {
     let spec = file_of(alloc, "s", case.1, piece, None)?;
     let log = file_of(alloc, "l", case.2, piece, None)?;
     let mut files = files_of(alloc, spec, log)?;
     let mut out = MemSink::open(alloc, 1000)?;
-    let outcome = run_over(alloc, size, &["s", "l"], &mut files, &mut out)?;
+    // A sample stands in place of the log.
+    let others: &[&str] = if options.contains("--sample") {
+        &["s"]
+    } else {
+        &["s", "l"]
+    };
+    let outcome = run_over(alloc, options, others, &mut files, &mut out)?;
     Ok(out.bytes() == case.3.as_bytes() && outcome.status == case.4)
 }
 
 /// Whether it does in pieces of each of three sizes.
-fn always_gives(alloc: Global, size: Size, case: &Case) -> Result<bool, NoMemory> {
+fn always_gives(alloc: Global, options: &str, case: &Case) -> Result<bool, NoMemory> {
     for piece in [1usize, 7, 1000] {
-        if !gives(alloc, size, case, piece)? {
+        if !gives(alloc, options, case, piece)? {
             return Ok(false);
         }
     }
@@ -166,14 +148,14 @@ fn reports_in_pieces_of_any_size(rt: HostRuntime) -> Result<(), Fail> {
             assert!(rt; always_gives(rt.alloc(), AMPLE, case)?, "{}", case.0);
         }
     }
-    for (size, case) in SMALL {
-        assert!(rt; always_gives(rt.alloc(), *size, case)?, "{}", case.0);
+    for (options, case) in OPTIONS {
+        assert!(rt; always_gives(rt.alloc(), options, case)?, "{}", case.0);
     }
     Ok(())
 }
 
 #[test]
-fn the_usual_limits_are_large(rt: HostRuntime) -> Result<(), Fail> {
+fn the_usual_sizes_are_large(rt: HostRuntime) -> Result<(), Fail> {
     let alloc = rt.alloc();
     let mut log = Vec::new(alloc);
     for _ in 0..300 {
@@ -191,18 +173,38 @@ fn the_usual_limits_are_large(rt: HostRuntime) -> Result<(), Fail> {
     let log = large_file(alloc, "l", log, 30_000)?;
     let mut files = files_of(alloc, spec, log)?;
     let mut out = MemSink::open(alloc, 10_000)?;
-    let mut words = Vec::new(alloc);
-    words.push(String::from_str(alloc, "s")?)?;
-    words.push(String::from_str(alloc, "l")?)?;
-    let outcome = usual_run_in::<Brand>(
-        alloc,
-        words.as_slice(),
-        &mut files,
-        &mut out,
-        Blank::new(1),
-    );
+    let outcome = run_over(alloc, "", &["s", "l"], &mut files, &mut out)?;
     assert_eq!(rt; outcome.end, End::Violated { count: 300 });
     assert_eq!(rt; outcome.status, 1);
+    Ok(())
+}
+
+/// The report of the access property on two hundred thousand events of the sample of seed 7: a user who has logged out
+/// comes back once in a thousand rounds of four events.
+fn sample_report(alloc: Global) -> Result<Vec<u8>, NoMemory> {
+    let mut report = Vec::new(alloc);
+    for j in 0..50u32 {
+        let event = 3976 + 4000 * j;
+        let user = 793 + 1000 * j;
+        let line = format!(in alloc; "violation {event} access u=\"u{user}\"\n")?;
+        report.extend_from_slice(line.as_bytes())?;
+    }
+    report.extend_from_slice(b"events 200000 violations 50\n")?;
+    Ok(report)
+}
+
+#[test]
+fn a_large_sample_has_its_report(rt: HostRuntime) -> Result<(), Fail> {
+    let alloc = rt.alloc();
+    let options = "--bits 8 --nodes 65536 --sample 7,200000";
+    let spec = file_of(alloc, "s", ACCESS, 1000, None)?;
+    let log = file_of(alloc, "l", "", 1, None)?;
+    let mut files = files_of(alloc, spec, log)?;
+    let mut out = MemSink::open(alloc, 10_000)?;
+    let outcome = run_over(alloc, options, &["s"], &mut files, &mut out)?;
+    let report = sample_report(alloc)?;
+    assert_eq!(rt; out.bytes(), report.as_slice());
+    assert_eq!(rt; outcome.end, End::Violated { count: 50 });
     Ok(())
 }
 
@@ -210,16 +212,28 @@ fn the_usual_limits_are_large(rt: HostRuntime) -> Result<(), Fail> {
 fn faults_stop_a_run_with_their_line(rt: HostRuntime) -> Result<(), Fail> {
     let alloc = rt.alloc();
     let log = "go,a\nstop,a\n";
-    let usage = "stopped: usage: dejavu SPEC LOG\n";
+    let usage = "stopped: usage: dejavu [--bits B] [--nodes N] [--cache C] [--limit L] [--all] \
+[--listen NAMES] [--sample SEED,EVENTS] SPEC [LOG]\n";
     let no_spec = "stopped: cannot open the specification\n";
     let no_log = "stopped: cannot open the log\n";
     let bad_spec = "stopped: read fault in the specification\n";
     let bad_log = "stopped: read fault in the log\n";
     let late_log = "violation 2 r\nstopped: read fault in the log\n";
-    let cases: [(&[&str], Option<u64>, Option<u64>, &str, u8); 9] = [
+    let cases: [(&[&str], Option<u64>, Option<u64>, &str, u8); 20] = [
         (&[], None, None, usage, 2),
         (&["s"], None, None, usage, 2),
         (&["s", "l", "l"], None, None, usage, 2),
+        (&["-", "-"], None, None, usage, 2),
+        (&["--help"], None, None, usage, 2),
+        (&["--limit=0", "s", "l"], None, None, usage, 2),
+        (&["--nodes=5", "s", "l"], None, None, usage, 2),
+        (&["--all", "--all", "s", "l"], None, None, usage, 2),
+        (&["--sample=1,2", "s", "l"], None, None, usage, 2),
+        (&["--sample=1,0", "s"], None, None, usage, 2),
+        (&["--listen=tally", "s", "l"], None, None, usage, 2),
+        (&["--listen=", "s", "l"], None, None, usage, 2),
+        (&["--sample=1,2", "x"], None, None, no_spec, 6),
+        (&["--sample=1,2", "s"], Some(0), None, bad_spec, 6),
         (&["x", "y"], None, None, no_spec, 6),
         (&["s", "y"], None, None, no_log, 6),
         (&["s", "l"], Some(0), None, bad_spec, 6),

@@ -20,9 +20,11 @@ end_line events violations =
 
 -- Of the words and the files that they name
 
--- there are not two words
+-- the words are a wrong use
 abbrev pub usage_line : Text
-usage_line = codes "stopped: usage: dejavu SPEC LOG\n"
+usage_line =
+    codes "stopped: usage: dejavu [--bits B] [--nodes N] [--cache C] [--limit L] [--all] "
+    ++ codes "[--listen NAMES] [--sample SEED,EVENTS] SPEC [LOG]\n"
 
 -- how a last line calls the file
 abbrev pub file_text : Which → Text

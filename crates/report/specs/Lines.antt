@@ -1,5 +1,5 @@
 -- The lines of the judged events, and the violations among them.
-use Rattle.std.specs.Prelude.{◌≡◌, ℕ, ◌+◌, ◌/◌, ◌%◌, List, [], ◌∷◌, ◌++◌, ◌||◌, nat_eq, nat_lt}
+use Rattle.std.specs.Prelude.{◌≡◌, ℕ, ◌+◌, ◌/◌, ◌%◌, List, [], ◌∷◌, ◌++◌, ◌||◌, Bool, false, nat_eq, nat_lt}
 use Rattle.std.specs.Prelude.{codes, decimal, if◌then◌else◌}
 use Rattle.std.specs.List.{flat_map}
 use Rattle.qtl_syntax.specs.Tree.{Text}
@@ -42,22 +42,22 @@ abbrev pub holds_line : ℕ → Text → Text
 holds_line event name =
     codes "holds " ++ (decimal event ++ (codes " " ++ (name ++ codes "\n")))
 
--- what a verdict writes
-abbrev pub verdict_text : ℕ → Text → Verdict → Text
-verdict_text event name True = []
-verdict_text event name (False witness) = violation_line event name witness
+-- what a verdict writes: a true one only where all are asked for
+abbrev pub verdict_text : (all : Bool) → ℕ → Text → Verdict → Text
+verdict_text all event name True = if all then holds_line event name else []
+verdict_text all event name (False witness) = violation_line event name witness
 
 -- what the verdicts of an event write, property by property
-abbrev pub event_lines : ℕ → List Text → List Verdict → Text
-event_lines event (name ∷ names) (v ∷ row) =
-    verdict_text event name v ++ event_lines event names row
-event_lines event _ _ = []
+abbrev pub event_lines : (all : Bool) → ℕ → List Text → List Verdict → Text
+event_lines all event (name ∷ names) (v ∷ row) =
+    verdict_text all event name v ++ event_lines all event names row
+event_lines all event _ _ = []
 
 -- the same for all events; the first row is that of this event
-abbrev pub report_lines : ℕ → List Text → List (List Verdict) → Text
-report_lines event names [] = []
-report_lines event names (row ∷ rows) =
-    event_lines event names row ++ report_lines (event + 1) names rows
+abbrev pub report_lines : (all : Bool) → ℕ → List Text → List (List Verdict) → Text
+report_lines all event names [] = []
+report_lines all event names (row ∷ rows) =
+    event_lines all event names row ++ report_lines all (event + 1) names rows
 
 -- Violations
 
@@ -90,8 +90,9 @@ violations event names [] = []
 violations event names (row ∷ rows) =
     event_violations event 0 names row ++ violations (event + 1) names rows
 
--- a law: what the verdicts on all events write are the lines of the violations, in order
+-- a law: what the verdicts on all events write, where the true ones write nothing, are the lines of
+-- the violations, in order
 abbrev pub ListsViolations : Type 0
 ListsViolations =
     (event : ℕ) (names : List Text) (rows : List (List Verdict)) →
-    report_lines event names rows ≡ flat_map (λ t. t.line) (violations event names rows)
+    report_lines false event names rows ≡ flat_map (λ t. t.line) (violations event names rows)

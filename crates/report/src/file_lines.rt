@@ -10,6 +10,10 @@ use crate::output::Output;
 use crate::which::{Which, name_of};
 use mon_base::{Failed, Sink};
 
+/// How the words are to be.
+const USAGE: &[u8] = b"stopped: usage: dejavu [--bits B] [--nodes N] [--cache C] [--limit L] [--all] \
+[--listen NAMES] [--sample SEED,EVENTS] SPEC [LOG]\n";
+
 /// Holds back the line that tells how the words are to be.
 pub fn put_usage<W: Sink>(output: &mut Output, out: &mut W) -> Result<(), Failed>
     ensures ok { OnOk result (Passes (W.written out.old) (W.written out.new) output.old output.new
@@ -18,7 +22,7 @@ pub fn put_usage<W: Sink>(output: &mut Output, out: &mut W) -> Result<(), Failed
         (output.old ++ usage_line)) }
     ensures cause { HasCause (W.faults out.old) (W.faults out.new) result }
 {
-    output.put(out, b"stopped: usage: dejavu SPEC LOG\n")
+    output.put(out, USAGE)
 }
 
 /// Holds back the line that tells what failed, and in which file.

@@ -69,7 +69,11 @@ const LINES: &[(Line, &str)] = &[
     (Line::End(11, 2), "events 11 violations 2\n"),
     (Line::End(0, 0), "events 0 violations 0\n"),
     (Line::End(18_446_744_073_709_551_615, 4_096), "events 18446744073709551615 violations 4096\n"),
-    (Line::Usage, "stopped: usage: dejavu SPEC LOG\n"),
+    (
+        Line::Usage,
+        "stopped: usage: dejavu [--bits B] [--nodes N] [--cache C] [--limit L] [--all] \
+[--listen NAMES] [--sample SEED,EVENTS] SPEC [LOG]\n",
+    ),
     (Line::Unopened(Which::Spec), "stopped: cannot open the specification\n"),
     (Line::Unopened(Which::Log), "stopped: cannot open the log\n"),
     (Line::Unread(Which::Spec), "stopped: read fault in the specification\n"),

@@ -16,7 +16,7 @@ use Rattle.subformulas.proofs.NumberedRows.{all_table, all_uses, bounds_of}
 use Rattle.monitor_model.specs.Stands.{IsPlan}
 use Rattle.run_model.specs.Accepted.{Accepts, Spells}
 use Rattle.run_model.specs.Limits.{setting_in, variables_in}
-use Rattle.run_model.specs.declared.limits.Limits.{Limits}
+use Rattle.run_model.specs.Job.{Job}
 
 -- a variable for each quantifier
 both_count : (xs ys : List Text) (a b : ℕ) → length xs ≡ a → length ys ≡ b → length (xs ++ ys) ≡ a + b
@@ -75,8 +75,8 @@ lawful_spelled (Some text) items (_, (ts, cut, spelled, clear)) = lawful_items 2
 lawful_spelled None items spelled = absurd spelled
 
 -- the table of accepted items
-pub accepted_plan : (limits : Limits) (spec : Option Text) (items : List Item) → Accepts spec items → IsPlan (setting_in limits items)
-accepted_plan limits spec items accepted =
+pub accepted_plan : (job : Job) (spec : Option Text) (items : List Item) → Accepts spec items → IsPlan (setting_in job items)
+accepted_plan job spec items accepted =
     let props : List (Text × CoreFormula) = expanded_props [] 0 items in
     let names = neither (first_name items) (first_count items) accepted.clear in
     let sound = accepted_sound items names.0 names.1 (lawful_spelled spec items accepted.spelled) in

@@ -27,7 +27,7 @@ laws_of one_fault never_both one_specification =
       one_fault = one_fault;
       never_both = never_both;
       one_specification = one_specification;
-      one_comes = λ job spec items accepted log e a b p q. one_end (setting_in job.limits items) log (length log) e (accepted_plan job.limits spec items accepted) a b p q;
+      one_comes = λ job spec items accepted log e a b p q. one_end (setting_in job items) log (length log) e (accepted_plan job spec items accepted) a b p q;
     }
 
 heeds_told : Laws → (job : Option Job) (went : Went) (before after : Moment) (told : Option (List (Text × Text))) → Asks job went.course went.early went.logs → IfSome told (λ texts. Reports job texts went before after) →

@@ -12,9 +12,9 @@ use Rattle.run_model.specs.Accepted.{Accepts, IsTooLong, HasFault, Spells}
 use Rattle.run_model.specs.declared.end.End.{End}
 use Rattle.run_model.specs.declared.end.End.TheVariants.{NoMemory}
 use Rattle.run_model.specs.Course.{end_of, stop_in, is_fault}
-use Rattle.run_model.specs.Job.{Job, log_names}
+use Rattle.run_model.specs.Job.{Job}
 use Rattle.run_model.specs.Ran.{Heeds, IsWholeRun}
-use Rattle.run_model.specs.Stage.{Refuses, StandsAt, Stands, IsDue, IsWalkOf, Walked, comes_in, whole_in, texts_in, said_of}
+use Rattle.run_model.specs.Stage.{Refuses, StandsAt, Stands, IsDue, IsWalkOf, Walked, comes_in, whole_in, logs_in, said_of}
 use Rattle.run_model.specs.Uses.{Use}
 use Rattle.run_model.specs.Walk.{Input, Walks}
 use Rattle.run_model.specs.Went.{AsksAt, Asks, HasFileCause, HasWriteCause}
@@ -126,8 +126,8 @@ one_due laws (Some job) texts (Log stop) Misused a b = absurd b
 one_due laws (Some job) texts (Log stop) (Spec due) (items, accepted, _) (others, b) = absurd (accepted_or_refused laws (text_of texts job.spec) items others due accepted b)
 one_due laws (Some job) texts (Log stop) (Log due) (items, accepted, walks) (others, accepted', walks') =
     let same = one_spelled laws (text_of texts job.spec) items others accepted.spelled accepted'.spelled in
-    let here = subst (λ (x : List Item). IsSomeAnd (texts_in texts (log_names job)) (IsWalkOf job x due)) same walks' in
-    ap Log (one_log job items (laws.one_comes job (text_of texts job.spec) items accepted) (texts_in texts (log_names job)) stop due walks here)
+    let here = subst (λ (x : List Item). IsSomeAnd (logs_in job texts x) (IsWalkOf job x due)) same walks' in
+    ap Log (one_log job items (laws.one_comes job (text_of texts job.spec) items accepted) (logs_in job texts items) stop due walks here)
 
 -- where a run stops is due, or a file's fault
 

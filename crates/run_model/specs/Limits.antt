@@ -15,21 +15,7 @@ use Rattle.monitor_model.specs.Ends as event_end
 use Rattle.monitor_model.specs.Setting.{Setting}
 use Rattle.monitor_model.specs.State.{temporal_count}
 use Rattle.report.specs.Witness.{chain}
-use Rattle.run_model.specs.declared.limits.Limits.{Limits}
-
--- the limits are lawful
-pub record AreLawful (limits : Limits) : Type 0 where
-  pub some_bits : 1 ≤ limits.bits
-  pub few_bits : limits.bits ≤ 20
-  pub some_nodes : 2 ≤ limits.nodes
-  pub few_nodes : limits.nodes ≤ 4194304
-  pub cache : limits.nodes + 2 ≤ limits.cache
-  pub few_entries : limits.cache ≤ 8388608
-  pub log : limits.log ≤ 281474976710656
-
--- the limits of a run whose words name none
-abbrev pub usual : Limits
-usual = record { bits = 16; nodes = 1048576; cache = 2097152; log = 281474976710656 }
+use Rattle.run_model.specs.Job.{Job}
 
 -- the variables of a specification, and the table of its subformulas
 abbrev pub variables_in : List Item → List Variable
@@ -51,40 +37,40 @@ abbrev pub name_in : List Variable → ℕ → Option Text
 name_in variables x = option_map (λ v. v.name) (slice_get variables x)
 
 -- what a monitor of the specification is set up with
-abbrev pub setting_in : Limits → List Item → Setting
-setting_in limits items = record {
-  bits = limits.bits;
-  nodes = limits.nodes;
+abbrev pub setting_in : Job → List Item → Setting
+setting_in job items = record {
+  bits = job.bits;
+  nodes = job.nodes;
   variables = length (variables_in items);
   subs = table_in items;
 }
 
 -- what comes at event e behind these events: nothing, or why it can't be judged
 abbrev pub ComesAt :
-    Limits → List Item → List Event → Event → Option event_end.End → Type 0
-ComesAt limits items log e end = event_end.IsEnd (setting_in limits items) log (length log) e end
+    Job → List Item → List Event → Event → Option event_end.End → Type 0
+ComesAt job items log e end = event_end.IsEnd (setting_in job items) log (length log) e end
 
 -- the cache has room for each pair of nodes
-abbrev pub IsAmple : Limits → Type 0
-IsAmple limits = (limits.nodes + 2) * (limits.nodes + 3) ≤ limits.cache
+abbrev pub IsAmple : Job → Type 0
+IsAmple job = (job.nodes + 2) * (job.nodes + 3) ≤ job.cache
 
 -- how many steps the judging of an event costs at most: six for each pair of nodes in each row, and
 -- for each variable, temporal subformula and node those of a walk for each code
-abbrev pub judging_bound : Limits → List Item → ℕ
-judging_bound limits items =
-    6 * sum_by (λ s. rows_of s.kind limits.bits) (table_in items)
-    * ((limits.nodes + 2) * (limits.nodes + 2))
+abbrev pub judging_bound : Job → List Item → ℕ
+judging_bound job items =
+    6 * sum_by (λ s. rows_of s.kind job.bits) (table_in items)
+    * ((job.nodes + 2) * (job.nodes + 2))
     + length (variables_in items) * temporal_count (table_in items)
-    * ((limits.nodes + 2) * (2 * limits.bits + 3) * 2 ^ limits.bits)
+    * ((job.nodes + 2) * (2 * job.bits + 3) * 2 ^ job.bits)
 
 -- and its witnesses: for each variable of a `forall` at the top of a property those of a walk for
 -- each code
-abbrev pub witness_bound : Limits → List Item → ℕ
-witness_bound limits items =
+abbrev pub witness_bound : Job → List Item → ℕ
+witness_bound job items =
     sum_by
     (λ q. length (chain (formula_at (table_in items) q.root))
-    * ((limits.bits + 1) * 2 ^ limits.bits))
+    * ((job.bits + 1) * 2 ^ job.bits))
     (plan_in items).props
 
-abbrev pub event_bound : Limits → List Item → ℕ
-event_bound limits items = judging_bound limits items + witness_bound limits items
+abbrev pub event_bound : Job → List Item → ℕ
+event_bound job items = judging_bound job items + witness_bound job items

@@ -1,5 +1,5 @@
 -- The text of a run: the lines of the judged events, and the last line.
-use Rattle.std.specs.Prelude.{◌≡◌, ℕ, List, [], ◌++◌, Option, Some, None, unwrap_or}
+use Rattle.std.specs.Prelude.{◌≡◌, ℕ, List, [], ◌++◌, Bool, Option, Some, None, unwrap_or}
 use Rattle.qtl_syntax.specs.Tree.{Text, Item}
 use Rattle.report.specs.LastLines.{usage_line, unopened_line, unread_line, long_spec_line, fault_line, name_line, end_line, log_line, long_log_line, codes_line, nodes_line}
 use Rattle.report.specs.Lines.{report_lines}
@@ -48,11 +48,11 @@ abbrev pub last_text : List Variable → (events violations : ℕ) → Option St
 last_text variables events violations None = []
 last_text variables events violations (Some stop) = stop_line variables events violations stop
 
--- the lines of the judged events, and the last line
-abbrev pub text_of_run : List Item → (rows : List (List Verdict)) → (events violations : ℕ) →
-    Option Stop → Text
-text_of_run items rows events violations stop =
-    report_lines 1 (names (properties items)) rows
+-- the lines of the judged events, those of true verdicts where all are asked for, and the last line
+abbrev pub text_of_run : (all : Bool) → List Item → (rows : List (List Verdict)) →
+    (events violations : ℕ) → Option Stop → Text
+text_of_run all items rows events violations stop =
+    report_lines all 1 (names (properties items)) rows
     ++ last_text (variables_in items) events violations stop
 
 -- what was written is the text, or a front of it where some was lost

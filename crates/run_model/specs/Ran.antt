@@ -1,5 +1,5 @@
 -- What a run does: the statement of the top call.
-use Rattle.std.specs.Prelude.{◌≡◌, ◌⊎◌, ⊤, ℕ, ◌+◌, ◌*◌, ◌≤◌, IsTrue, List, length, false, Option, Some, None, IfSome}
+use Rattle.std.specs.Prelude.{◌≡◌, ◌⊎◌, ⊤, ℕ, ◌+◌, ◌*◌, ◌≤◌, IsTrue, List, length, Bool, false, Option, Some, None, IfSome}
 use Rattle.std.specs.Io.KnownBytes.{Appends}
 use Rattle.mon_base.specs.Causes.{Rose}
 use Rattle.qtl_syntax.specs.Tree.{Text, Item}
@@ -25,7 +25,12 @@ abbrev pub Costs : Option Job → List Item → (handed before after : ℕ) → 
 Costs None items handed before after = after ≡ before
 Costs (Some job) items handed before after =
     (handed ≡ 0 → after ≡ before)
-    × (IsAmple job.limits → after ≤ before + event_bound job.limits items * handed)
+    × (IsAmple job → after ≤ before + event_bound job items * handed)
+
+-- whether true verdicts are written too
+abbrev pub is_all : Option Job → Bool
+is_all None = false
+is_all (Some job) = job.all
 
 -- What a run judged and wrote, where the files tell their texts
 pub record Reports (job : Option Job) (texts : List (Text × Text)) (went : Went)
@@ -44,7 +49,7 @@ pub record Reports (job : Option Job) (texts : List (Text × Text)) (went : Went
   pub sent : Text
   pub written : Appends before.written after.written sent
   pub whole : IsSentOf went.course sent
-      (text_of_run items rows went.events went.violations (stop_in went.course))
+      (text_of_run (is_all job) items rows went.events went.violations (stop_in went.course))
   pub cost : Costs job items went.handed before.steps after.steps
 
 -- The stop that is due is the one that a run came to, but where a file's fault came before

@@ -4,9 +4,11 @@ use Rattle.mon_base.specs.Told.{text_of}
 use Rattle.qtl_syntax.specs.Tree.{Text, Item}
 use Rattle.qtl_truth.specs.declared.event.Event.{Event}
 use Rattle.wellformed.specs.Faults.{first_fault}
+use Rattle.settings.specs.Asked.{Origin, FromFile, FromSample}
+use Rattle.sample_log.specs.Sample.{sample}
 use Rattle.run_model.specs.Accepted.{IsTooLong, HasFault, Spells, Accepts}
 use Rattle.run_model.specs.Course.{is_spec_fault}
-use Rattle.run_model.specs.Job.{Job, log_names}
+use Rattle.run_model.specs.Job.{Job}
 use Rattle.run_model.specs.Limits.{ComesAt}
 use Rattle.run_model.specs.Uses.{Fate, NotGiven, Closed, Use, told_first}
 use Rattle.run_model.specs.Verdicts.{is_timed}
@@ -41,19 +43,29 @@ form_of job items = record { timed = is_timed items }
 
 -- what comes at an event of it
 abbrev pub comes_in : Job → List Item → Comes
-comes_in job items = ComesAt job.limits items
+comes_in job items = ComesAt job items
 
--- the bytes of the run's logs, where each of them is there
+-- the bytes of these files, where each of them is there
 abbrev pub texts_in : List (Text × Text) → List Text → Option (List Text)
 texts_in texts [] = Some []
 texts_in texts (name ∷ names) = told_first (text_of texts name) (texts_in texts names)
 
+-- the bytes of the run's logs: of the file, where it is there, or of the sample, which has times
+-- where the specification asks for them
+abbrev pub logs_from : Origin → List (Text × Text) → List Item → Option (List Text)
+logs_from (FromFile name) texts items = texts_in texts (name ∷ [])
+logs_from (FromSample seed events) texts items =
+    Some (sample seed events (is_timed items) ∷ [])
+
+abbrev pub logs_in : Job → List (Text × Text) → List Item → Option (List Text)
+logs_in job texts items = logs_from job.log texts items
+
 -- what is known of logs of which this was taken, and what they are
 abbrev pub known_of : Job → List Item → List Taken → Input
-known_of job items taken = join (map (λ t. known (form_of job items) job.limits.log t) taken)
+known_of job items taken = join (map (λ t. known (form_of job items) job.limit t) taken)
 
 abbrev pub whole_in : Job → List Item → List Text → Input
-whole_in job items alls = join (map (λ all. input_of (form_of job items) job.limits.log all) alls)
+whole_in job items alls = join (map (λ all. input_of (form_of job items) job.limit all) alls)
 
 -- this was taken of a log by the use of its file
 abbrev pub CameTakes : (limit : ℕ) → Text → Fate → Taken → Type 0
@@ -61,11 +73,23 @@ CameTakes limit all (Closed hurt (Some left)) taken = Takes limit all left taken
 CameTakes limit all (Closed hurt None) taken = ⊥
 CameTakes limit all NotGiven taken = ⊥
 
-abbrev pub UsesTake : (limit : ℕ) → List Text → List Use → List Taken → Type 0
-UsesTake limit [] [] [] = ⊤
-UsesTake limit (all ∷ alls) (u ∷ uses) (t ∷ taken) =
-    CameTakes limit all u.came t × UsesTake limit alls uses taken
-UsesTake limit _ _ _ = ⊥
+abbrev pub FilesTake : (limit : ℕ) → List Text → List Use → List Taken → Type 0
+FilesTake limit [] [] [] = ⊤
+FilesTake limit (all ∷ alls) (u ∷ uses) (t ∷ taken) =
+    CameTakes limit all u.came t × FilesTake limit alls uses taken
+FilesTake limit _ _ _ = ⊥
+
+-- and of a sample
+abbrev pub SampleTakes : (limit : ℕ) → List Text → List Taken → Type 0
+SampleTakes limit (all ∷ []) (t ∷ []) = (left : Text) × Takes limit all left t
+SampleTakes limit _ _ = ⊥
+
+abbrev pub TakesFrom : Origin → (limit : ℕ) → List Text → List Use → List Taken → Type 0
+TakesFrom (FromFile name) limit alls uses taken = FilesTake limit alls uses taken
+TakesFrom (FromSample seed events) limit alls uses taken = SampleTakes limit alls taken
+
+abbrev pub LogsTake : Job → List Text → List Use → List Taken → Type 0
+LogsTake job alls uses taken = TakesFrom job.log job.limit alls uses taken
 
 -- what a stop is said of: of what was taken, where a read failed, else of the whole log
 abbrev pub said_of : LogStop → (taken whole : Input) → Input
@@ -87,7 +111,7 @@ handed_by _ judged = judged
 pub record Walked (job : Job) (items : List Item) (alls : List Text) (logs : List Use)
     (judged : List Event) (handed : ℕ) (stop : LogStop) : Type 0 where
   pub taken : List Taken
-  pub takes : UsesTake job.limits.log alls logs taken
+  pub takes : LogsTake job alls logs taken
   pub walks : Walks (comes_in job items) (said_in job items taken alls stop) judged stop
   pub handed_is : handed ≡ handed_by stop (length judged)
 
@@ -95,7 +119,7 @@ pub record Walked (job : Job) (items : List Item) (alls : List Text) (logs : Lis
 pub record IsWalking (job : Job) (items : List Item) (alls : List Text) (logs : List Use)
     (judged : List Event) (handed : ℕ) : Type 0 where
   pub taken : List Taken
-  pub takes : UsesTake job.limits.log alls logs taken
+  pub takes : LogsTake job alls logs taken
   pub walked : HasWalked (comes_in job items) (known_of job items taken) judged
   pub few : handed ≤ length judged + 1
   pub within : handed ≤ length (known_of job items taken).events
@@ -122,14 +146,14 @@ StandsAt (Some job) texts items logs judged handed (Spec stop) =
     × (IsTrue (is_spec_fault stop) ⊎ Refuses (text_of texts job.spec) items stop)
 StandsAt (Some job) texts items logs judged handed (Log stop) =
     Accepts (text_of texts job.spec) items
-    × StandsAtLog job items (texts_in texts (log_names job)) logs judged handed stop
+    × StandsAtLog job items (logs_in job texts items) logs judged handed stop
 
 -- it is on its way along the log of an accepted specification
 abbrev pub StandsAlong : Job → List (Text × Text) → List Item → (logs : List Use) →
     (judged : List Event) → (handed : ℕ) → Type 0
 StandsAlong job texts items logs judged handed =
     Accepts (text_of texts job.spec) items
-    × IsSomeAnd (texts_in texts (log_names job)) (λ a. IsWalking job items a logs judged handed)
+    × IsSomeAnd (logs_in job texts items) (λ a. IsWalking job items a logs judged handed)
 
 -- without a stop: before the log, for want of memory alone, or along it
 abbrev pub StandsOnTheWay : Option Job → List (Text × Text) → List Item → (logs : List Use) →
@@ -166,4 +190,4 @@ IsDue (Some job) texts (Spec stop) =
     (items : List Item) × Refuses (text_of texts job.spec) items stop
 IsDue (Some job) texts (Log stop) =
     (items : List Item) × Accepts (text_of texts job.spec) items
-    × IsSomeAnd (texts_in texts (log_names job)) (IsWalkOf job items stop)
+    × IsSomeAnd (logs_in job texts items) (IsWalkOf job items stop)

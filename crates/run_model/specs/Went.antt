@@ -1,8 +1,9 @@
 -- How a run went: one record, of which every clause of the top call speaks.
-use Rattle.std.specs.Prelude.{◌≡◌, ◌⊎◌, ⊤, ℕ, Bool, IsTrue, List, [], ◌∷◌, ◌++◌, Option, Some, None}
+use Rattle.std.specs.Prelude.{◌≡◌, ◌⊎◌, ⊤, ℕ, Bool, IsTrue, false, List, [], ◌∷◌, ◌++◌, map, Option, Some, None}
 use Rattle.qtl_syntax.specs.Tree.{Text}
-use Rattle.run_model.specs.Course.{is_fault}
-use Rattle.run_model.specs.Job.{Job}
+use Rattle.settings.specs.Asked.{Origin, FromFile, FromSample}
+use Rattle.run_model.specs.Course.{is_fault, is_log_fault}
+use Rattle.run_model.specs.Job.{Job, log_names}
 use Rattle.run_model.specs.Uses.{Use, Ask, Way, Refused, Failed, Given, given, AreAsked, AreSomeAsked}
 use Rattle.run_model.specs.declared.stop.SpecStop.{SpecStop}
 use Rattle.run_model.specs.declared.stop.SpecStop.TheVariants as spec_stop
@@ -56,10 +57,14 @@ early_asks job Misused = []
 early_asks job (Spec stop) = record { name = job.spec; way = spec_way stop } ∷ []
 early_asks job (Log stop) = given job.spec ∷ []
 
--- and as the log
-abbrev pub log_asks : Job → Stop → List Ask
-log_asks job (Log stop) = record { name = job.log; way = log_way stop } ∷ []
-log_asks job _ = []
+-- as the log, which ended so: a sample is no file, and has no file's fault
+abbrev pub AsksLog : Origin → LogStop → (logs : List Use) → Type 0
+AsksLog (FromFile name) stop logs = AreAsked (record { name = name; way = log_way stop } ∷ []) logs
+AsksLog (FromSample seed events) stop logs = (logs ≡ []) × (is_log_fault stop ≡ false)
+
+abbrev pub AsksLogs : Job → Stop → (logs : List Use) → Type 0
+AsksLogs job (Log stop) logs = AsksLog job.log stop logs
+AsksLogs job _ logs = logs ≡ []
 
 -- At a stop. A wrong use asks for no file, and is the only stop of words that are none.
 abbrev pub AsksAt : Option Job → Stop → (early logs : List Use) → Type 0
@@ -67,7 +72,11 @@ AsksAt None Misused early logs = (early ≡ []) × (logs ≡ [])
 AsksAt None _ early logs = ⊥
 AsksAt (Some job) Misused early logs = ⊥
 AsksAt (Some job) stop early logs =
-    AreAsked (early_asks job stop) early × AreAsked (log_asks job stop) logs
+    AreAsked (early_asks job stop) early × AsksLogs job stop logs
+
+-- the logs are given
+abbrev pub given_logs : Job → List Ask
+given_logs job = map given (log_names job)
 
 -- Without a stop: where there was no memory the specification was asked for, or not even that, or
 -- the log too; a write fails on the way only where both were given.
@@ -76,9 +85,9 @@ AsksOnTheWay None Starved early logs = (early ≡ []) × (logs ≡ [])
 AsksOnTheWay None Cut early logs = ⊥
 AsksOnTheWay (Some job) Starved early logs =
     (AreSomeAsked (given job.spec ∷ []) early × (logs ≡ []))
-    ⊎ (AreAsked (given job.spec ∷ []) early × AreSomeAsked (given job.log ∷ []) logs)
+    ⊎ (AreAsked (given job.spec ∷ []) early × AreSomeAsked (given_logs job) logs)
 AsksOnTheWay (Some job) Cut early logs =
-    AreAsked (given job.spec ∷ []) early × AreAsked (given job.log ∷ []) logs
+    AreAsked (given job.spec ∷ []) early × AreAsked (given_logs job) logs
 
 -- Which files were asked for, in which order, and what came of each, by the words and the course
 abbrev pub Asks : Option Job → Course → (early logs : List Use) → Type 0

@@ -13,7 +13,7 @@ pub enum End {
     Violated {
         count: u64,
     },
-    /// There are not exactly two words.
+    /// The words are a wrong use.
     Usage,
     /// The specification has more than 1,048,576 bytes.
     SpecTooLong,

@@ -2,11 +2,9 @@
 #![tactic(auto)]
 
 mod end;
-mod limits;
 mod stop;
 
 pub use end::{End, Outcome};
-pub use limits::Limits;
 pub use stop::{Course, Halt, LogStop, Loss, SpecStop, Stop};
 
 /// How many bytes a specification has at most.

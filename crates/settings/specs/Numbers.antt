@@ -1,10 +1,21 @@
 -- The numbers of the options.
-use Rattle.std.specs.Prelude.{ℕ, List, length, ◌&&◌, ◌+◌, max, Option, Some, None, codes, if◌then◌else◌}
+use Rattle.std.specs.Prelude.{ℕ, ◌≤◌, List, length, ◌&&◌, ◌+◌, max, Option, Some, None, codes, if◌then◌else◌}
 use Rattle.std.specs.Int.{is_in_range}
 use Rattle.std.specs.Str.{all_ascii_digits}
 use Rattle.std.specs.Str.Parse.{digits_value}
 use Rattle.clap.specs.Words.{Row, first_of}
 use Rattle.settings.specs.declared.numbers.Sizes.{Sizes}
+
+-- the sizes lie within their limits
+pub record AreLawful (bits nodes cache limit : ℕ) : Type 0 where
+  pub some_bits : 1 ≤ bits
+  pub few_bits : bits ≤ 20
+  pub some_nodes : 2 ≤ nodes
+  pub few_nodes : nodes ≤ 4194304
+  pub enough_entries : nodes + 2 ≤ cache
+  pub few_entries : cache ≤ 8388608
+  pub some_bytes : 1 ≤ limit
+  pub few_bytes : limit ≤ 281474976710656
 
 -- the option's value handed on, where there is one
 abbrev pub given : {A B : Type 0} → Option A → (A → Option B) → Option B

@@ -2,7 +2,7 @@
 ghost use Rattle.std.specs.Prelude.{◌≡◌, ◌≤◌, IfSome, option_map, string_bytes};
 ghost use Rattle.std.specs.Str.{all_ascii_digits};
 ghost use Rattle.settings.specs.Asked.{rows_in};
-ghost use Rattle.settings.specs.Numbers.{number_within, number_or as number_or_lem, sizes_of};
+ghost use Rattle.settings.specs.Numbers.{AreLawful, number_within, number_or as number_or_lem, sizes_of};
 
 use crate::command::value_of;
 use clap::ArgMatches;
@@ -67,7 +67,8 @@ fn number_or(value: Option<&str>, usual: u64, least: u64, most: u64) -> Option<u
 }
 
 pub fn sizes_in(matches: &ArgMatches<'_>) -> Option<Sizes>
-    ensures { result ≡ sizes_of (rows_in matches.now) }
+    ensures sizes { result ≡ sizes_of (rows_in matches.now) }
+    ensures lawful { IfSome result (λ s. AreLawful s.bits s.nodes s.cache s.limit) }
 {
     let bits = number_or(value_of(matches, "bits"), USUAL_BITS, 1, MOST_BITS)?;
     let nodes = number_or(value_of(matches, "nodes"), USUAL_NODES, 2, MOST_NODES)?;

@@ -1,5 +1,6 @@
 //! The words read, and what they say of the log.
 ghost use Rattle.std.specs.Prelude.{◌≡◌, None, Some, map, string_bytes, IfOk, IsErrOf, option_map};
+ghost use Rattle.settings.specs.Numbers.{AreLawful};
 ghost use Rattle.settings.specs.Asked.{asked_by, asked_in, is_dash, log_of, origin_in, pieces, rows_in, sample_of, settings_of};
 
 use crate::command::{has_flag, matches_in, value_of};
@@ -57,6 +58,7 @@ fn log_in(
 /// The settings of a command line that was parsed.
 fn settings_in(alloc: Global, matches: &ArgMatches<'_>) -> Result<Settings, UsageEnd>
     ensures ok { IfOk result (λ s. asked_in (rows_in matches.now) ≡ Some (asked_by s)) }
+    ensures lawful { IfOk result (λ s. AreLawful s.bits s.nodes s.cache s.limit) }
     ensures usage { IsErrOf result UsageEnd.Usage → asked_in (rows_in matches.now) ≡ None }
 {
     let sizes = sizes_in(matches).ok_or(UsageEnd::Usage)?;
@@ -88,6 +90,7 @@ fn settings_in(alloc: Global, matches: &ArgMatches<'_>) -> Result<Settings, Usag
 /// are not looked up here.
 pub fn read(alloc: Global, words: &[String]) -> Result<Settings, UsageEnd>
     ensures ok { IfOk result (λ s. settings_of (map string_bytes words.now) ≡ Some (asked_by s)) }
+    ensures lawful { IfOk result (λ s. AreLawful s.bits s.nodes s.cache s.limit) }
     ensures usage { IsErrOf result UsageEnd.Usage → settings_of (map string_bytes words.now) ≡ None }
 {
     let matches = matches_in(alloc, words)?;

@@ -12,16 +12,16 @@ use Rattle.run_model.specs.Verdicts.{is_timed}
 use Rattle.monitor_run.specs.Opening.{AsksSpec, IsSpelled, IsUnspelled, SpecIs, SpecRead, SpecRefused, StopsReading}
 use Rattle.monitor_run.specs.Standing.{HasSizes, IsPlanOf, HasJudged, has_times}
 use Rattle.monitor_run.specs.declared.judge.Judge.{Judge}
-use Rattle.run_model.specs.declared.limits.Limits.{Limits}
+use Rattle.run_model.specs.Job.{Job}
 use Rattle.run_model.specs.declared.stop.Halt.{Halt}
 use Rattle.run_model.specs.declared.stop.Halt.TheVariants.{At, Lost}
 use Rattle.run_model.specs.declared.stop.SpecStop.{SpecStop}
 use Rattle.run_model.specs.declared.stop.SpecStop.TheVariants.{Unopened, Unread, TooLong, Fault, Names}
 use Rattle.monitor_run.proofs.Accepting.TimedRows.{any_timed, all_timed}
 
-spelled_read : (limits : Limits) (t : Option (List (Text × Text))) (spec text : Text) (judge : Judge) → IfSome t (λ files. SpecIs files spec text) → IsSpelled limits text judge → SpecRead limits t spec judge
-spelled_read limits None spec text judge s h = record { items = h.items; judged = h.judged; accepted = tt }
-spelled_read limits (Some files) spec text judge s h =
+spelled_read : (job : Job) (t : Option (List (Text × Text))) (text : Text) (judge : Judge) → IfSome t (λ files. SpecIs files job.spec text) → IsSpelled job text judge → SpecRead job t judge
+spelled_read job None text judge s h = record { items = h.items; judged = h.judged; accepted = tt }
+spelled_read job (Some files) text judge s h =
     record { items = h.items; judged = h.judged; accepted = record { spelled = rw s.0 (s.1, h.spelled); clear = h.clear } }
 
 unspelled_read : (files : List (Text × Text)) (spec text : Text) (halt : Halt SpecStop) → SpecIs files spec text → IsUnspelled text halt → SpecRefused files spec halt
@@ -32,10 +32,10 @@ unspelled_read files spec text (At Unread) s h = absurd h
 unspelled_read files spec text (At TooLong) s h = absurd h
 unspelled_read files spec text (Lost loss) s h = h
 
-pub read_ok : (limits : Limits) (r : Result Judge (Halt SpecStop)) (t : Option (List (Text × Text))) (spec text : Text) → IfSome t (λ files. SpecIs files spec text) →
-    IfOk r (λ judge. IsSpelled limits text judge) → IfOk r (λ judge. SpecRead limits t spec judge)
-read_ok limits (Ok judge) t spec text s h = spelled_read limits t spec text judge s h
-read_ok limits (Err halt) t spec text s h = h
+pub read_ok : (job : Job) (r : Result Judge (Halt SpecStop)) (t : Option (List (Text × Text))) (text : Text) → IfSome t (λ files. SpecIs files job.spec text) →
+    IfOk r (λ judge. IsSpelled job text judge) → IfOk r (λ judge. SpecRead job t judge)
+read_ok job (Ok judge) t text s h = spelled_read job t text judge s h
+read_ok job (Err halt) t text s h = h
 
 told_refused : (t : Option (List (Text × Text))) (spec text : Text) (halt : Halt SpecStop) → IfSome t (λ files. SpecIs files spec text) → IsUnspelled text halt → IfSome t (λ files. SpecRefused files spec halt)
 told_refused None spec text halt s h = tt
@@ -75,12 +75,13 @@ none_before [] later e is = let n : ⊥ = cc in n
 none_before (x ∷ before) later e is = let n : ⊥ = cc in n
 
 -- the judge before the first event
-pub judge_stands : (limits : Limits) (items : List Item) (judge : Judge) → IsPlanOf items judge.monitor.plan → HasSizes limits judge.monitor → IsMonitor judge.monitor → IsLive judge.monitor → Stands judge.monitor [] →
-    judge.events ≡ 0 → judge.violations ≡ 0 → HasJudged limits items [] [] judge
-judge_stands limits items judge plan sizes sound live stands events violations =
+pub judge_stands : (job : Job) (items : List Item) (judge : Judge) → IsPlanOf items judge.monitor.plan → HasSizes job judge.monitor → judge.shows_true ≡ job.all → IsMonitor judge.monitor → IsLive judge.monitor → Stands judge.monitor [] →
+    judge.events ≡ 0 → judge.violations ≡ 0 → HasJudged job items [] [] judge
+judge_stands job items judge plan sizes shows sound live stands events violations =
     record {
       plan = plan;
       sizes = sizes;
+      shows = shows;
       stands = record {
         sound = sound;
         live = live;

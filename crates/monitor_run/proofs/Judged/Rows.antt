@@ -193,12 +193,14 @@ verdicts_more log e items rows row a r =
       each = λ i h. row_each log e items rows row a r i (omega (arith, h, n)) (cases_lt (length log) (i + 1));
     }
 
-pub lines_more : (event : ℕ) (ns : List Text) (rows : List (List Verdict)) (row : List Verdict) →
-    report_lines event ns (rows ++ row ∷ []) ≡ report_lines event ns rows ++ event_lines (event + length rows) ns row
-lines_more event ns [] row = append-nil (event_lines event ns row) ∙ ap (λ (n : ℕ). event_lines n ns row) (let e : event ≡ event + 0 = omega arith in e)
-lines_more event ns (r ∷ rows) row =
-    ap (λ (l : Text). event_lines event ns r ++ l) (lines_more (event + 1) ns rows row ∙ ap (λ (n : ℕ). report_lines (event + 1) ns rows ++ event_lines n ns row) (let e : event + 1 + length rows ≡ event + length (r ∷ rows) = omega arith in e))
-    ∙ sym (append_assoc (event_lines event ns r) (report_lines (event + 1) ns rows) (event_lines (event + length (r ∷ rows)) ns row))
+pub lines_more : (all : Bool) (event : ℕ) (ns : List Text) (rows : List (List Verdict)) (row : List Verdict) →
+    report_lines all event ns (rows ++ row ∷ []) ≡ report_lines all event ns rows ++ event_lines all (event + length rows) ns row
+lines_more all event ns [] row = append-nil (event_lines all event ns row) ∙ ap (λ (n : ℕ). event_lines all n ns row) (let e : event ≡ event + 0 = omega arith in e)
+lines_more all event ns (r ∷ rows) row =
+    ap (λ (l : Text). event_lines all event ns r ++ l)
+    (lines_more all (event + 1) ns rows row
+    ∙ ap (λ (n : ℕ). report_lines all (event + 1) ns rows ++ event_lines all n ns row) (let e : event + 1 + length rows ≡ event + length (r ∷ rows) = omega arith in e))
+    ∙ sym (append_assoc (event_lines all event ns r) (report_lines all (event + 1) ns rows) (event_lines all (event + length (r ∷ rows)) ns row))
 
 pub false_more : (rows : List (List Verdict)) (row : List Verdict) → false_count (rows ++ row ∷ []) ≡ false_count rows + false_in row
 false_more [] row = let e : false_in row + 0 ≡ 0 + false_in row = omega arith in e

@@ -6,12 +6,12 @@ use Rattle.monitor_run.specs.Judging.{Spends, judge_bound}
 use Rattle.monitor_run.specs.Standing.{KeepsPlan}
 use Rattle.monitor_run.specs.declared.judge.Judge.{Judge}
 
--- plan and sizes stay where nothing is done, and from one call to the next
+-- plan, sizes and what is shown stay where nothing is done, and from one call to the next
 pub keeps_none : (j : Judge) → KeepsPlan j j
-keeps_none j = record { plan = refl; bits = refl; room = refl; entries = refl }
+keeps_none j = record { shows = refl; plan = refl; bits = refl; room = refl; entries = refl }
 
 pub keeps_trans : (i j k : Judge) → KeepsPlan i j → KeepsPlan j k → KeepsPlan i k
-keeps_trans i j k a b = record { plan = b.plan ∙ a.plan; bits = b.bits ∙ a.bits; room = b.room ∙ a.room; entries = b.entries ∙ a.entries }
+keeps_trans i j k a b = record { shows = b.shows ∙ a.shows; plan = b.plan ∙ a.plan; bits = b.bits ∙ a.bits; room = b.room ∙ a.room; entries = b.entries ∙ a.entries }
 
 -- so a memo stays large enough, and an event's bound is the same
 pub keeps_large : (j k : Judge) → KeepsPlan j k → IsLarge j.monitor.shelf → IsLarge k.monitor.shelf

@@ -1,5 +1,5 @@
 -- How what the code keeps of a log, its reader and its monitor leads to the walk.
-use Rattle.std.proofs.Common.{◌≡◌, ◌≢◌, ℕ, ◌+◌, ◌≤◌, inl, inr, List, [], ◌∷◌, ◌++◌, length, refl, sym, ap, ◌∙◌, append_assoc, Bool}
+use Rattle.std.proofs.Common.{◌≡◌, ◌≢◌, ℕ, ◌+◌, ◌≤◌, inl, inr, List, [], ◌∷◌, ◌++◌, length, refl, sym, ap, ◌∙◌, subst, append_assoc, Bool}
 use Rattle.std.specs.Prelude.{Some}
 use Rattle.qtl_syntax.specs.Tree.{Text, Item}
 use Rattle.qtl_truth.specs.declared.event.Event.{Event}
@@ -10,9 +10,9 @@ use Rattle.log_reader.specs.declared.fault.LogFault.{LogFault}
 use Rattle.monitor_model.specs.Ends as event_end
 use Rattle.monitor_run.specs.Reading.{Fed, AreAll}
 use Rattle.run_model.specs.Job.{Job}
-use Rattle.run_model.specs.Stage.{Walked, IsWalking, comes_in, form_of, whole_in, handed_by}
-use Rattle.run_model.specs.Uses.{Use, Closed}
-use Rattle.run_model.specs.Walk.{Form, Close, Taken, Takes, Comes, AllFit, Walks, HasWalked, is_ended, stop_of_close, or_fault, known, stop_at}
+use Rattle.run_model.specs.Stage.{LogsTake, Walked, IsWalking, comes_in, form_of, said_in, whole_in, handed_by}
+use Rattle.run_model.specs.Uses.{Use}
+use Rattle.run_model.specs.Walk.{Form, Input, Close, Taken, Takes, Comes, AllFit, Walks, HasWalked, is_ended, stop_of_close, or_fault, known, stop_at}
 use Rattle.run_model.specs.declared.stop.LogStop.{LogStop}
 use Rattle.run_model.specs.declared.stop.LogStop.TheVariants.{Unopened, Unread, Whole, Fault, Long, CodesFull, NodesFull}
 use Rattle.run_model.proofs.Growing.{walk_whole}
@@ -55,28 +55,36 @@ module _ (comes : Comes) (limit : ℕ) (timed : Bool) (given : Text) (close : Cl
         stops = inr (record { event = e; later = f.later; why = why; split = f.first ∙ append_assoc log (e ∷ []) f.later; comes_there = there; told = refl });
       }
 
--- A run that opened and closed its log
+-- A run that read its log
 
-abbrev use_of : Text → Bool → Text → Use
-use_of name hurt left = record { name = name; came = Closed hurt (Some left) }
-
-module _ (job : Job) (items : List Item) (name all left : Text) (hurt : Bool) (taken : Taken) (judged : List Event) (t : Takes job.limits.log all left taken) where
+module _ (job : Job) (items : List Item) (all left : Text) (logs : List Use) (taken : Taken) (judged : List Event) (t : Takes job.limit all left taken) (took : LogsTake job (all ∷ []) logs (taken ∷ [])) where
   -- on its way
-  pub is_walking : (handed : ℕ) → handed ≤ length judged + 1 → handed ≤ length (known (form_of job items) job.limits.log taken).events → HasWalked (comes_in job items) (known (form_of job items) job.limits.log taken) judged →
-      IsWalking job items (all ∷ []) (use_of name hurt left ∷ []) judged handed
-  is_walking handed few within w = record { taken = taken ∷ []; takes = (t, tt); walked = w; few = few; within = within }
+  pub is_walking : (handed : ℕ) → handed ≤ length judged + 1 → handed ≤ length (known (form_of job items) job.limit taken).events → HasWalked (comes_in job items) (known (form_of job items) job.limit taken) judged →
+      IsWalking job items (all ∷ []) logs judged handed
+  is_walking handed few within w = record { taken = taken ∷ []; takes = took; walked = w; few = few; within = within }
 
   -- at a stop: what was taken decides it, or its read failed
-  at_whole : (stop : LogStop) → stop ≢ Unread → Walks (comes_in job items) (known (form_of job items) job.limits.log taken) judged stop →
-      Walks (comes_in job items) (whole_in job items (all ∷ [])) judged stop
-  at_whole stop other w = walk_whole (comes_in job items) (form_of job items) job.limits.log all left taken judged stop t other w
+  at_whole : (stop : LogStop) → stop ≢ Unread → Walks (comes_in job items) (known (form_of job items) job.limit taken) judged stop →
+      Walked job items (all ∷ []) logs judged (handed_by stop (length judged)) stop
+  at_whole stop other w =
+      let whole : Walks (comes_in job items) (whole_in job items (all ∷ [])) judged stop = walk_whole (comes_in job items) (form_of job items) job.limit all left taken judged stop t other w in
+      record { taken = taken ∷ []; takes = took; walks = subst (λ (i : Input). Walks (comes_in job items) i judged stop) (sym (said_whole stop other)) whole; handed_is = refl }
+    where
+      said_whole : (stop : LogStop) → stop ≢ Unread → said_in job items (taken ∷ []) (all ∷ []) stop ≡ whole_in job items (all ∷ [])
+      said_whole Unread other = absurd (other refl)
+      said_whole Unopened other = refl
+      said_whole Whole other = refl
+      said_whole (Fault fault) other = refl
+      said_whole (Long most) other = refl
+      said_whole (CodesFull event x need) other = refl
+      said_whole (NodesFull event k row) other = refl
 
-  pub walked : (stop : LogStop) → Walks (comes_in job items) (known (form_of job items) job.limits.log taken) judged stop →
-      Walked job items (all ∷ []) (use_of name hurt left ∷ []) judged (handed_by stop (length judged)) stop
-  walked Unread w = record { taken = taken ∷ []; takes = (t, tt); walks = w; handed_is = refl }
-  walked Unopened w = record { taken = taken ∷ []; takes = (t, tt); walks = at_whole Unopened (λ e. let n : ⊥ = cc in n) w; handed_is = refl }
-  walked Whole w = record { taken = taken ∷ []; takes = (t, tt); walks = at_whole Whole (λ e. let n : ⊥ = cc in n) w; handed_is = refl }
-  walked (Fault fault) w = record { taken = taken ∷ []; takes = (t, tt); walks = at_whole (Fault fault) (λ e. let n : ⊥ = cc in n) w; handed_is = refl }
-  walked (Long most) w = record { taken = taken ∷ []; takes = (t, tt); walks = at_whole (Long most) (λ e. let n : ⊥ = cc in n) w; handed_is = refl }
-  walked (CodesFull event x need) w = record { taken = taken ∷ []; takes = (t, tt); walks = at_whole (CodesFull event x need) (λ e. let n : ⊥ = cc in n) w; handed_is = refl }
-  walked (NodesFull event k row) w = record { taken = taken ∷ []; takes = (t, tt); walks = at_whole (NodesFull event k row) (λ e. let n : ⊥ = cc in n) w; handed_is = refl }
+  pub walked : (stop : LogStop) → Walks (comes_in job items) (known (form_of job items) job.limit taken) judged stop →
+      Walked job items (all ∷ []) logs judged (handed_by stop (length judged)) stop
+  walked Unread w = record { taken = taken ∷ []; takes = took; walks = w; handed_is = refl }
+  walked Unopened w = at_whole Unopened (λ e. let n : ⊥ = cc in n) w
+  walked Whole w = at_whole Whole (λ e. let n : ⊥ = cc in n) w
+  walked (Fault fault) w = at_whole (Fault fault) (λ e. let n : ⊥ = cc in n) w
+  walked (Long most) w = at_whole (Long most) (λ e. let n : ⊥ = cc in n) w
+  walked (CodesFull event x need) w = at_whole (CodesFull event x need) (λ e. let n : ⊥ = cc in n) w
+  walked (NodesFull event k row) w = at_whole (NodesFull event k row) (λ e. let n : ⊥ = cc in n) w

@@ -1,6 +1,6 @@
 -- How a run went, told of its parts: where the words are a wrong use, the specification gave no judge, or the log was read.
-use Rattle.std.proofs.Common.{◌≡◌, ℕ, ◌+◌, ◌*◌, ◌≤◌, ◌⊎◌, inl, inr, List, [], ◌∷◌, ◌++◌, length, refl, sym, ap, ◌∙◌, subst, append-nil, arith, IsTrue}
-use Rattle.std.specs.Prelude.{◌≢◌, ⊤, Option, Some, None, IfSome}
+use Rattle.std.proofs.Common.{◌≡◌, ℕ, ◌+◌, ◌*◌, ◌≤◌, ◌⊎◌, inl, inr, List, [], ◌∷◌, ◌++◌, length, refl, sym, ap, ◌∙◌, subst, append-nil, arith, Bool, IsTrue}
+use Rattle.std.specs.Prelude.{⊤, Option, Some, None, IfSome}
 use Rattle.std.specs.Io.KnownBytes.{Appends}
 use Rattle.std.proofs.KnownBytes.{Appends-nil}
 use Rattle.mon_base.specs.Causes.{Rose}
@@ -12,20 +12,19 @@ use Rattle.report.specs.Lines.{report_lines}
 use Rattle.report.specs.Verdicts.{Verdict, false_count}
 use Rattle.run_model.specs.Accepted.{Accepts}
 use Rattle.run_model.specs.Course.{end_of, stop_in, is_spec_fault}
-use Rattle.run_model.specs.Job.{Job, job_of, log_names}
+use Rattle.run_model.specs.Job.{Job}
 use Rattle.run_model.specs.Limits.{event_bound, variables_in}
 use Rattle.run_model.specs.Lines.{text_of_run, stop_line, IsSentOf}
-use Rattle.run_model.specs.Ran.{Costs, Reports}
-use Rattle.run_model.specs.Stage.{Refuses, Stands, texts_in}
+use Rattle.run_model.specs.Ran.{Costs, Reports, is_all}
+use Rattle.run_model.specs.Stage.{Refuses, Stands, logs_in}
 use Rattle.run_model.specs.Uses.{Use, TellUses, left_in, given, AreAsked}
 use Rattle.run_model.specs.Verdicts.{properties, names}
 use Rattle.run_model.specs.Went.{Moment, Asks, HasFileCause, HasWriteCause}
 use Rattle.monitor_run.specs.Finishing.{Finishes, HasLastCause, Owes}
-use Rattle.monitor_run.specs.Opening.{AreTold, AsksLog, AsksRefused, HasLogCause, HasSpecCause, LogHalted, SpecRefused, StandsTo}
+use Rattle.monitor_run.specs.Opening.{AreTold, AsksRefused, AsksTo, HasLogCause, HasSpecCause, LogHalted, SpecRefused, StandsTo}
 use Rattle.monitor_run.specs.Reading.{HasCutCause, LinesPass}
 use Rattle.monitor_run.specs.declared.judge.Judge.{Judge}
 use Rattle.monitor_run.specs.declared.last.Finished.{Finished}
-use Rattle.run_model.specs.declared.limits.Limits.{Limits}
 use Rattle.run_model.specs.declared.stop.Halt.{Halt}
 use Rattle.run_model.specs.declared.stop.Halt.TheVariants as halt
 use Rattle.run_model.specs.declared.stop.LogStop.{LogStop}
@@ -53,15 +52,15 @@ record Counted (job : Option Job) (t : Option (List (Text × Text))) (early logs
 
 costs_nothing : (job : Option Job) (items : List Item) (n : ℕ) → Costs job items 0 n n
 costs_nothing None items n = refl
-costs_nothing (Some job) items n = (λ none. refl, λ ample. go (event_bound job.limits items)) where
+costs_nothing (Some job) items n = (λ none. refl, λ ample. go (event_bound job items)) where
   go : (x : ℕ) → n ≤ n + x * 0
   go x = omega arith
 
-last_is : (v : List Variable) (events violations : ℕ) (items : List Item) (rows : List (List Verdict)) (lines : Text) (stop : Option Stop) → v ≡ variables_in items → lines ≡ report_lines 1 (names (properties items)) rows →
-    lines ++ last_at (stop_line v events violations) stop ≡ text_of_run items rows events violations stop
-last_is v events violations items rows lines None is same = ap (λ (l : Text). l ++ []) same
-last_is v events violations items rows lines (Some stop) is same =
-    ap (λ (l : Text). l ++ stop_line v events violations stop) same ∙ ap (λ (x : List Variable). report_lines 1 (names (properties items)) rows ++ stop_line x events violations stop) is
+last_is : (all : Bool) (v : List Variable) (events violations : ℕ) (items : List Item) (rows : List (List Verdict)) (lines : Text) (stop : Option Stop) → v ≡ variables_in items → lines ≡ report_lines all 1 (names (properties items)) rows →
+    lines ++ last_at (stop_line v events violations) stop ≡ text_of_run all items rows events violations stop
+last_is all v events violations items rows lines None is same = ap (λ (l : Text). l ++ []) same
+last_is all v events violations items rows lines (Some stop) is same =
+    ap (λ (l : Text). l ++ stop_line v events violations stop) same ∙ ap (λ (x : List Variable). report_lines all 1 (names (properties items)) rows ++ stop_line x events violations stop) is
 
 -- what a stop before the log leaves
 module _ (job : Option Job) (texts : List (Text × Text)) (early : List Use) (course : Course) (before after : Moment) (items : List Item) (left : List Text) where
@@ -80,7 +79,7 @@ module _ (job : Option Job) (texts : List (Text × Text)) (early : List Use) (co
         left_is = ap left_in (append-nil early) ∙ is;
         sent = s.sent;
         written = s.written;
-        whole = subst (λ (l : Text). IsSentOf course s.sent l) (last_is (variables_in items) 0 0 items [] [] (stop_in course) refl refl) s.whole;
+        whole = subst (λ (l : Text). IsSentOf course s.sent l) (last_is (is_all job) (variables_in items) 0 0 items [] [] (stop_in course) refl refl) s.whole;
         cost = subst (λ (n : ℕ). Costs job items 0 before.steps n) (sym idle) (costs_nothing job items before.steps);
       }
 
@@ -132,12 +131,6 @@ tell_same t before after o h u = record { told = rw (o, h, u) (tell_none before.
 
 -- A wrong use
 
-no_job : (limits : Limits) (words : List Text) → length words ≢ 2 → job_of limits words ≡ None
-no_job limits [] n = refl
-no_job limits (x ∷ []) n = refl
-no_job limits (x ∷ y ∷ []) n = absurd (n refl)
-no_job limits (x ∷ y ∷ z ∷ words) n = refl
-
 abbrev same_stop : Stop → Stop
 same_stop s = s
 
@@ -151,17 +144,17 @@ use_stands : (course : Course) → ((texts : List (Text × Text)) → Stands Non
 use_stands course s None = tt
 use_stands course s (Some texts) = ([], s texts)
 
-pub use_owes : (limits : Limits) (words : List Text) (before after : Moment) (course : Course) (held : Text) → length words ≢ 2 → held ≡ [] → after.opened ≡ before.opened → after.hurt ≡ before.hurt → after.unread ≡ before.unread → after.steps ≡ before.steps →
+pub use_owes : (job : Option Job) (before after : Moment) (course : Course) (held : Text) → job ≡ None → held ≡ [] → after.opened ≡ before.opened → after.hurt ≡ before.hurt → after.unread ≡ before.unread → after.steps ≡ before.steps →
     Finishes (λ (s : Stop). s) (stop_line [] 0 0) (halt.At Misused) course held before.written after.written → HasLastCause (Rose before.out_faults after.out_faults) course → (finished : Finished) → finished ≡ record { course = course; violations = 0 } →
-    Owes (job_of limits words) before after finished
-use_owes limits words before after course held other none o h u idle f cause end is =
+    Owes job before after finished
+use_owes job before after course held misused none o h u idle f cause end is =
     let files = Rose before.file_faults after.file_faults in
     let out = Rose before.out_faults after.out_faults in
     let (asks, file, write, line, stands) = at_course same_stop (stop_line [] 0 0) held before.written after.written (UseParts files out) Misused course
     ((refl, refl), (λ bad. let no : ⊥ = cc in absurd no), (λ x. tt), (λ v. refl), use_stands (Came Misused) (λ texts. (refl, refl)))
     ((refl, refl), (λ bad. let no : ⊥ = cc in absurd no), (λ x. x), (λ v. refl), use_stands (Lost Cut (Some Misused)) (λ texts. (refl, refl))) f in
     let sends = Fronts.finished same_stop (stop_line [] 0 0) (halt.At Misused) course before.written before.written after.written held [] (nothing_passed before.written held none) f in
-    subst (λ (j : Option Job). Owes j before after end) (sym (no_job limits words other))
+    subst (λ (j : Option Job). Owes j before after end) (sym misused)
     (early_owes None [] before after end course is asks (tell_same before.texts before after o h u) file (write cause) (stands before.texts) (λ v. subst (λ (l : Text). Sends course before.written after.written l) (line v) sends) idle)
 
 -- There was no memory for anything
@@ -206,7 +199,7 @@ module _ (job : Job) (before after : Moment) (uses : List Use) (h : Halt SpecSto
   spec_parts : (files out : Type 0) (x : Halt SpecStop) → AsksRefused job.spec x uses → HasSpecCause files x → held ≡ [] → Finishes Spec spec_line x course held before.written after.written →
       SpecParts files out x course × LinesPass x before.written before.written held []
   spec_parts files out (halt.At stop) a file none f = (
-    at_course Spec spec_line held before.written after.written (SpecParts files out (halt.At stop)) stop course ((a, tt), file, (λ x. tt), (λ v. refl), λ texts items s. ((refl, refl), s)) ((a, tt), file, (λ x. x), (λ v. refl), λ texts items s. ((refl, refl), s)) f,
+    at_course Spec spec_line held before.written after.written (SpecParts files out (halt.At stop)) stop course ((a, refl), file, (λ x. tt), (λ v. refl), λ texts items s. ((refl, refl), s)) ((a, refl), file, (λ x. x), (λ v. refl), λ texts items s. ((refl, refl), s)) f,
     nothing_passed before.written held none,
   )
   spec_parts files out (halt.Lost Cut) (is, a) file none f = let no : ⊥ = cc in absurd no
@@ -236,17 +229,17 @@ module _ (job : Job) (early logs : List Use) (course : Course) (held : Text) (w0
   abbrev LogParts : (files out last : Type 0) → Course → Type 0
   LogParts files out last c = Asks (Some job) c early logs × HasFileCause (stop_in c) files × (HasLastCause last c → (last → out) → HasWriteCause c out)
 
-  log_parts : (files cut out last : Type 0) (h : Halt LogStop) → AreAsked (given job.spec ∷ []) early → AsksLog job.log h logs → HasLogCause files h → HasCutCause cut h → (cut → out) → Finishes Log line h course held w0 w1 → LogParts files out last course
+  log_parts : (files cut out last : Type 0) (h : Halt LogStop) → AreAsked (given job.spec ∷ []) early → AsksTo job.log h logs → HasLogCause files h → HasCutCause cut h → (cut → out) → Finishes Log line h course held w0 w1 → LogParts files out last course
   log_parts files cut out last (halt.At stop) e l file rose so f = at_course Log line held w0 w1 (LogParts files out last) stop course ((e, l), file, (λ x y. tt)) ((e, l), file, (λ x y. y x)) f
   log_parts files cut out last (halt.Lost Cut) e l file rose so f = cut_course Log line held w0 w1 (LogParts files out last) course ((e, l), tt, (λ x y. so rose)) f
   log_parts files cut out last (halt.Lost Starved) e l file rose so f = starved_course Log line held w0 w1 (LogParts files out last) course (inr (e, l), tt, (λ x y. tt)) f
 
-  log_stands : (texts : List (Text × Text)) (items : List Item) (judged : List Event) (handed : ℕ) (h : Halt LogStop) → Accepts (text_of texts job.spec) items → StandsTo job items (texts_in texts (log_names job)) logs judged handed h →
+  log_stands : (texts : List (Text × Text)) (items : List Item) (judged : List Event) (handed : ℕ) (h : Halt LogStop) → Accepts (text_of texts job.spec) items → StandsTo job items (logs_in job texts items) logs judged handed h →
       Finishes Log line h course held w0 w1 → Stands (Some job) texts items logs judged handed course
   log_stands texts items judged handed (halt.At stop) a s f = at_course Log line held w0 w1 (λ c. Stands (Some job) texts items logs judged handed c) stop course (a, s) (a, s) f
   log_stands texts items judged handed (halt.Lost Cut) a s f = cut_course Log line held w0 w1 (λ c. Stands (Some job) texts items logs judged handed c) course (a, s) f
   log_stands texts items judged handed (halt.Lost Starved) a s f = starved_course Log line held w0 w1 (λ c. Stands (Some job) texts items logs judged handed c) course (on_the_way s) f where
-    on_the_way : StandsTo job items (texts_in texts (log_names job)) logs judged handed (halt.Lost Starved) → Stands (Some job) texts items logs judged handed (Lost Starved None)
+    on_the_way : StandsTo job items (logs_in job texts items) logs judged handed (halt.Lost Starved) → Stands (Some job) texts items logs judged handed (Lost Starved None)
     on_the_way (inl none) = inl none
     on_the_way (inr along) = inr (a, along)
 
@@ -260,7 +253,7 @@ module _ (job : Job) (early logs : List Use) (course : Course) (held : Text) (be
         ((s : Stop) → stop_in course ≡ Some s → log_line s ≡ stop_line j.monitor.plan.variables events violations s) → Finishes Log log_line h course held mid after.written →
         Reports (Some job) texts (record { early = early; logs = logs; course = course; events = events; violations = violations; handed = r.handed }) before after
     log_report h events violations steps r same_steps count false_ones same_line f =
-        let sends = Fronts.finished Log log_line h course before.written mid after.written held (report_lines 1 (names (properties items)) r.rows) r.lines f in
+        let sends = Fronts.finished Log log_line h course before.written mid after.written held (report_lines job.all 1 (names (properties items)) r.rows) r.lines f in
         record {
           items = items;
           judged = r.judged;
@@ -278,10 +271,10 @@ module _ (job : Job) (early logs : List Use) (course : Course) (held : Text) (be
         }
       where
         text_is : (o : Option Stop) → ((s : Stop) → o ≡ Some s → log_line s ≡ stop_line j.monitor.plan.variables events violations s) →
-            report_lines 1 (names (properties items)) r.rows ++ last_at log_line o ≡ text_of_run items r.rows events violations o
+            report_lines job.all 1 (names (properties items)) r.rows ++ last_at log_line o ≡ text_of_run job.all items r.rows events violations o
         text_is None same = refl
         text_is (Some s) same =
-            ap (λ (l : Text). report_lines 1 (names (properties items)) r.rows ++ l) (same s refl) ∙ last_is j.monitor.plan.variables events violations items r.rows (report_lines 1 (names (properties items)) r.rows) (Some s) plan refl
+            ap (λ (l : Text). report_lines job.all 1 (names (properties items)) r.rows ++ l) (same s refl) ∙ last_is job.all j.monitor.plan.variables events violations items r.rows (report_lines job.all 1 (names (properties items)) r.rows) (Some s) plan refl
 
   log_counted : (t : Option (List (Text × Text))) (h : Halt LogStop) (steps : ℕ) → IfSome t (λ _. (left : List Text) × (left_in early ≡ Some left)) → IfSome t (λ texts. Accepts (text_of texts job.spec) items) → j.monitor.plan.variables ≡ variables_in items →
       IfSome t (λ texts. LogHalted job texts items logs before.written mid held j before.steps steps h) → steps ≡ after.steps → Finishes Log log_line h course held mid after.written → Counted (Some job) t early logs course j.violations before after
@@ -315,7 +308,7 @@ module _ (job : Job) (early logs : List Use) (course : Course) (held : Text) (be
 
   -- so it is told
   pub log_owes : (h : Halt LogStop) (steps : ℕ) (cut_rose file_rose last_rose : Type 0) (finished : Finished) → AreAsked (given job.spec ∷ []) early → IfSome before.texts (λ _. (left : List Text) × (left_in early ≡ Some left)) →
-      IfSome before.texts (λ texts. Accepts (text_of texts job.spec) items) → j.monitor.plan.variables ≡ variables_in items → AsksLog job.log h logs →
+      IfSome before.texts (λ texts. Accepts (text_of texts job.spec) items) → j.monitor.plan.variables ≡ variables_in items → AsksTo job.log h logs →
       IfSome before.texts (λ texts. LogHalted job texts items logs before.written mid held j before.steps steps h) → steps ≡ after.steps →
       TellUses (early ++ logs) before.opened after.opened before.hurt after.hurt before.unread after.unread → HasLogCause file_rose h → (file_rose → Rose before.file_faults after.file_faults) →
       HasCutCause cut_rose h → (cut_rose → Rose before.out_faults after.out_faults) → HasLastCause last_rose course → (last_rose → Rose before.out_faults after.out_faults) → Finishes Log log_line h course held mid after.written →

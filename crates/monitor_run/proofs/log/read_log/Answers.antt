@@ -8,7 +8,7 @@ use Rattle.monitor_run.proofs.log.read_log.Goals as goal
 
 pub pieces-init : goal.pieces-init
 pieces-init g c = record {
-  reads = λ items all s is. ([], refl, reads_start c.args.limits items all _ _ c.args.judge.now c.args.reader.now c.args.output.now s is c.requires.fresh c.requires.stands c.requires.nothing);
+  reads = λ job items all limit_is s is. ([], refl, reads_start job items all _ _ c.args.judge.now c.args.reader.now c.args.output.now s is c.requires.fresh c.requires.stands c.requires.nothing);
   room = c.requires.room;
   closed = ap (λ r. r.ended) c.requires.fresh;
   fed = is_fed_start (has_times c.args.judge.now.monitor.plan) c.args.reader.now c.args.judge.now.monitor.last_time c.requires.fresh c.requires.stands c.requires.time;
@@ -33,11 +33,11 @@ end_log-requires-clause-fed g c = record {
 }
 
 pub returns-in-Ok-eq0-clause-halted : goal.returns-in-Ok-eq0-clause-halted
-returns-in-Ok-eq0-clause-halted g c items all s is =
-    let w = c.pieces.invariant.reads items all s is in
+returns-in-Ok-eq0-clause-halted g c job items all limit_is s is =
+    let w = c.pieces.invariant.reads job items all limit_is s is in
     let o = c.in-Ok-eq0.ensures in
-    let t = o.ok c.args.limits items all _ w.0 (let n = c.pieces.invariant.within in omega (arith, n, w.1)) w.2 in
-    c.end_log.ensures.halted c.args.limits items all _ _ (w.0 ++ t.0) t.2 (o.ended c.in-Ok-eq0.field-0-test)
+    let t = o.ok job items all _ w.0 (let n = c.pieces.invariant.within in omega (arith, n, w.1, limit_is)) w.2 in
+    c.end_log.ensures.halted job items all _ _ (w.0 ++ t.0) t.2 (o.ended c.in-Ok-eq0.field-0-test)
 
 pub returns-in-Ok-eq0-clause-plan : goal.returns-in-Ok-eq0-clause-plan
 returns-in-Ok-eq0-clause-plan g c =
@@ -52,9 +52,9 @@ returns-in-Ok-eq0-clause-cost g c =
     c.end_log.ensures.cost
 
 pub returns-in-Err-clause-halted : goal.returns-in-Err-clause-halted
-returns-in-Err-clause-halted g c items all s is =
-    let w = c.pieces.invariant.reads items all s is in
-    c.in-Err.ensures.err c.args.limits items all _ w.0 (let n = c.pieces.invariant.within in omega (arith, n, w.1)) w.2
+returns-in-Err-clause-halted g c job items all limit_is s is =
+    let w = c.pieces.invariant.reads job items all limit_is s is in
+    c.in-Err.ensures.err job items all _ w.0 (let n = c.pieces.invariant.within in omega (arith, n, w.1, limit_is)) w.2
 
 pub returns-in-Err-clause-plan : goal.returns-in-Err-clause-plan
 returns-in-Err-clause-plan g c = keeps_trans c.args.judge.now c.pieces.judge c.take_turn.new.judge c.pieces.invariant.plan c.take_turn.ensures.plan
@@ -68,8 +68,8 @@ pieces-preserved g c =
     let i = c.pieces.invariant in
     let o = c.in-Ok.ensures in
     record {
-      reads = λ items all s is. let w = i.reads items all s is in
-          let t = o.ok c.args.limits items all _ w.0 (let n = i.within in omega (arith, n, w.1)) w.2 in
+      reads = λ job items all limit_is s is. let w = i.reads job items all limit_is s is in
+          let t = o.ok job items all _ w.0 (let n = i.within in omega (arith, n, w.1, limit_is)) w.2 in
           (w.0 ++ t.0, (let n = length-append w.0 t.0 in omega (arith, n, w.1, t.1)), t.2);
       room = let n = c.take_turn.ensures.length in omega (arith, n, i.room);
       closed = o.on;
@@ -88,9 +88,9 @@ pieces-preserved g c =
     }
 
 pub returns-clause-halted : goal.returns-clause-halted
-returns-clause-halted g c items all s is =
-    let w = c.pieces.invariant.reads items all s is in
-    c.past_limit.ensures.halted items all _ w.0 w.2 (let t = c.pieces-test.false in omega (arith, w.1, t, c.pieces.invariant.within))
+returns-clause-halted g c job items all limit_is s is =
+    let w = c.pieces.invariant.reads job items all limit_is s is in
+    c.past_limit.ensures.halted job items all _ w.0 limit_is w.2 (let t = c.pieces-test.false in omega (arith, w.1, t, c.pieces.invariant.within))
 
 pub returns-clause-plan : goal.returns-clause-plan
 returns-clause-plan g c = keeps_trans c.args.judge.now c.pieces.judge c.past_limit.new.judge c.pieces.invariant.plan c.past_limit.ensures.plan

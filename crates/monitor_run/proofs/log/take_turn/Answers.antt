@@ -9,15 +9,15 @@ use Rattle.monitor_run.proofs.ReadLog.Reads.{reads_piece}
 use Rattle.monitor_run.proofs.log.take_turn.Goals as goal
 
 pub returns-in-Err-clause-err : goal.returns-in-Err-clause-err
-returns-in-Err-clause-err g c limits items all sent given short a =
-    halts_at_read limits items all sent given _ _ _ _ c.args.judge.now c.args.reader.now c.args.output.now c.fetch.new.output c.in-Err.halt a c.in-Err.ensures.failed
+returns-in-Err-clause-err g c job items all sent given short a =
+    halts_at_read job items all sent given _ _ _ _ c.args.judge.now c.args.reader.now c.args.output.now c.fetch.new.output c.in-Err.halt a c.in-Err.ensures.failed
 
 pub returns-in-Err-feed-clause-err : goal.returns-in-Err-feed-clause-err
-returns-in-Err-feed-clause-err g c limits items all sent given short a =
+returns-in-Err-feed-clause-err g c job items all sent given short a =
     let o = c.in-Ok.ensures in
     let piece = take c.in-Ok.count c.fetch.new.room in
     let n = length-take-le c.in-Ok.count c.fetch.new.room o.within in
-    halts_at_feed limits items all sent given _ (g.S.Source.left c.fetch.new.source) _ _ piece c.args.judge.now c.args.reader.now c.feed.new.self c.args.output.now c.fetch.new.output a o.taken o.sent.0 o.sent.1 (omega (arith, n, o.most, short)) c.feed.ensures.given
+    halts_at_feed job items all sent given _ (g.S.Source.left c.fetch.new.source) _ _ piece c.args.judge.now c.args.reader.now c.feed.new.self c.args.output.now c.fetch.new.output a o.taken o.sent.0 o.sent.1 (omega (arith, n, o.most, short)) c.feed.ensures.given
 
 pub returns-in-Err-clause-plan : goal.returns-in-Err-clause-plan
 returns-in-Err-clause-plan g c = keeps_none c.args.judge.now
@@ -47,13 +47,13 @@ pub returns-in-Ok-judge_fed-clause-on : goal.returns-in-Ok-judge_fed-clause-on
 returns-in-Ok-judge_fed-clause-on g c = c.in-Ok-judge_fed.ensures.on ∙ c.feed.ensures.ended ∙ c.requires.on
 
 pub returns-in-Ok-judge_fed-clause-ok : goal.returns-in-Ok-judge_fed-clause-ok
-returns-in-Ok-judge_fed-clause-ok g c limits items all sent given short a =
+returns-in-Ok-judge_fed-clause-ok g c job items all sent given short a =
     let e = c.in-Ok-feed.ensures in
     let o = c.in-Ok.ensures in
     let piece = take c.in-Ok.count c.fetch.new.room in
     let n = length-take-le c.in-Ok.count c.fetch.new.room o.within in
-    let w = reads_piece limits items all _ _ sent _ _ given piece c.args.judge.now c.args.reader.now c.feed.new.self c.args.output.now c.fetch.new.output a o.taken o.sent.0 o.sent.1 (omega (arith, n, o.most, short)) e.fed e.stands in
-    (piece, n, c.in-Ok-judge_fed.ensures.ok limits items all _ sent (given ++ piece) _ w)
+    let w = reads_piece job items all _ _ sent _ _ given piece c.args.judge.now c.args.reader.now c.feed.new.self c.args.output.now c.fetch.new.output a o.taken o.sent.0 o.sent.1 (omega (arith, n, o.most, short)) e.fed e.stands in
+    (piece, n, c.in-Ok-judge_fed.ensures.ok job items all _ sent (given ++ piece) _ w)
 
 pub returns-in-Ok-judge_fed-clause-fed : goal.returns-in-Ok-judge_fed-clause-fed
 returns-in-Ok-judge_fed-clause-fed g c count f =
@@ -63,13 +63,13 @@ returns-in-Ok-judge_fed-clause-fed g c count f =
     c.in-Ok-judge_fed.ensures.fed (count + c.in-Ok.count) (rw (← n) (is_fed_piece count piece c.args.reader.now c.feed.new.self c.args.judge.now.monitor.last_time c.requires.on e.fed e.stands f))
 
 pub returns-in-Err-judge_fed-clause-err : goal.returns-in-Err-judge_fed-clause-err
-returns-in-Err-judge_fed-clause-err g c limits items all sent given short a =
+returns-in-Err-judge_fed-clause-err g c job items all sent given short a =
     let e = c.in-Ok-feed.ensures in
     let o = c.in-Ok.ensures in
     let piece = take c.in-Ok.count c.fetch.new.room in
     let n = length-take-le c.in-Ok.count c.fetch.new.room o.within in
-    let w = reads_piece limits items all _ _ sent _ _ given piece c.args.judge.now c.args.reader.now c.feed.new.self c.args.output.now c.fetch.new.output a o.taken o.sent.0 o.sent.1 (omega (arith, n, o.most, short)) e.fed e.stands in
-    c.in-Err-judge_fed.ensures.err limits items all _ sent (given ++ piece) _ w
+    let w = reads_piece job items all _ _ sent _ _ given piece c.args.judge.now c.args.reader.now c.feed.new.self c.args.output.now c.fetch.new.output a o.taken o.sent.0 o.sent.1 (omega (arith, n, o.most, short)) e.fed e.stands in
+    c.in-Err-judge_fed.ensures.err job items all _ sent (given ++ piece) _ w
 
 pub returns-in-Err-judge_fed-clause-cause : goal.returns-in-Err-judge_fed-clause-cause
 returns-in-Err-judge_fed-clause-cause g c =

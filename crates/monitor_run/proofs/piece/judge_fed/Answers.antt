@@ -11,7 +11,7 @@ use Rattle.monitor_run.proofs.piece.judge_fed.Goals as goal
 
 pub records-init : goal.records-init
 records-init g c = record {
-  reads = λ limits items all left sent given ended w. w;
+  reads = λ job items all left sent given ended w. w;
   within = c.requires.fed;
   fed = λ count f. f;
   closed = refl;
@@ -49,13 +49,13 @@ judge_event-requires-clause-time g c =
     omega (arith, later, f.time)
 
 pub returns-in-Err-judge_event-clause-err : goal.returns-in-Err-judge_event-clause-err
-returns-in-Err-judge_event-clause-err g c limits items all left sent given ended reads =
-    let w = c.records.invariant.reads limits items all left sent given ended reads in
+returns-in-Err-judge_event-clause-err g c job items all left sent given ended reads =
+    let w = c.records.invariant.reads job items all left sent given ended reads in
     let e = c.in-Ok-Some.ensures in
     let j = c.in-Err-judge_event.ensures in
     let t = c.next.new.self in
     let fed = fed_event _ given ended w.log c.records.reader t c.in-Ok-Some.field-0 c.in-Ok-Some.event c.in-Ok-Some.field-0-is w.bytes.fed (e.answer given w.bytes.fed.stands) (e.stands given w.bytes.fed.stands) e.timed e.ended e.given in
-    halts_at_event limits items all left sent given ended _ _ c.records.judge c.judge_event.new.judge c.records.reader t c.records.output c.judge_event.new.output c.in-Ok-Some.event c.in-Err-judge_event.halt w fed
+    halts_at_event job items all left sent given ended _ _ c.records.judge c.judge_event.new.judge c.records.reader t c.records.output c.judge_event.new.output c.in-Ok-Some.event c.in-Err-judge_event.halt w fed
     j.plan (j.judged w.log w.judged.events w.judged.stands) j.written
 
 pub returns-in-Err-judge_event-clause-plan : goal.returns-in-Err-judge_event-clause-plan
@@ -103,10 +103,10 @@ records-preserved g c =
     let on : (count : ℕ) → IsFed count c.records.reader last → IsFed count t now = λ count f.
     subst (λ (n : ℕ). IsFed count t n) (sym j.time) (is_fed_event count c.records.reader t last c.in-Ok-Some.field-0 c.in-Ok-Some.event c.in-Ok-Some.field-0-is e.answer e.stands e.timed e.ended e.given f) in
     record {
-      reads = λ limits items all left sent given ended reads.
-          let w = i.reads limits items all left sent given ended reads in
+      reads = λ job items all left sent given ended reads.
+          let w = i.reads job items all left sent given ended reads in
           let fed = fed_event _ given ended w.log c.records.reader t c.in-Ok-Some.field-0 c.in-Ok-Some.event c.in-Ok-Some.field-0-is w.bytes.fed (e.answer given w.bytes.fed.stands) (e.stands given w.bytes.fed.stands) e.timed e.ended e.given in
-          reads_event limits items all left sent _ _ given ended c.records.judge c.judge_event.new.judge c.records.reader t c.records.output c.judge_event.new.output c.in-Ok-Some.event w fed
+          reads_event job items all left sent _ _ given ended c.records.judge c.judge_event.new.judge c.records.reader t c.records.output c.judge_event.new.output c.in-Ok-Some.event w fed
           j.plan (j.judged w.log w.judged.events w.judged.stands) j.written;
       within = is_fed_within 281474976710656 c.records.reader t last now on i.within;
       fed = λ count f. on count (i.fed count f);
@@ -121,10 +121,10 @@ records-preserved g c =
     }
 
 pub returns-in-Ok-None-clause-ok : goal.returns-in-Ok-None-clause-ok
-returns-in-Ok-None-clause-ok g c limits items all left sent given ended reads =
-    let w = c.records.invariant.reads limits items all left sent given ended reads in
+returns-in-Ok-None-clause-ok g c job items all left sent given ended reads =
+    let w = c.records.invariant.reads job items all left sent given ended reads in
     let e = c.in-Ok-None.ensures in
-    reads_all limits items all left sent _ given ended c.records.judge c.records.reader c.next.new.self c.records.output w
+    reads_all job items all left sent _ given ended c.records.judge c.records.reader c.next.new.self c.records.output w
     (fed_still _ given ended w.log c.records.reader c.next.new.self c.in-Ok-None.field-0 c.in-Ok-None.field-0-is w.bytes.fed (e.stands given w.bytes.fed.stands) e.timed e.ended e.given)
     (fed_all _ given ended w.log c.records.reader c.in-Ok-None.field-0 c.in-Ok-None.field-0-is w.bytes.fed (e.answer given w.bytes.fed.stands))
 
@@ -154,10 +154,10 @@ returns-in-Ok-None-clause-cost g c large =
     spends_to (judge_bound c.args.judge.now.monitor) c.args.judge.now.events c.records.judge.events c.next.new.self.given c.args.steps.now c.records.steps (omega (arith, same, c.records.invariant.events)) (c.records.invariant.cost large)
 
 pub returns-in-Err-clause-err : goal.returns-in-Err-clause-err
-returns-in-Err-clause-err g c limits items all left sent given ended reads =
-    let w = c.records.invariant.reads limits items all left sent given ended reads in
+returns-in-Err-clause-err g c job items all left sent given ended reads =
+    let w = c.records.invariant.reads job items all left sent given ended reads in
     let e = c.in-Err.ensures in
-    rw c.halt_of_record.ensures (halts_at_record limits items all left sent given ended _ c.records.judge c.records.reader c.next.new.self c.records.output c.in-Err.fault w e.given (fed_fault _ given ended w.log c.records.reader c.in-Err.fault w.bytes.fed (e.answer given w.bytes.fed.stands)))
+    rw c.halt_of_record.ensures (halts_at_record job items all left sent given ended _ c.records.judge c.records.reader c.next.new.self c.records.output c.in-Err.fault w e.given (fed_fault _ given ended w.log c.records.reader c.in-Err.fault w.bytes.fed (e.answer given w.bytes.fed.stands)))
 
 pub returns-in-Err-clause-plan : goal.returns-in-Err-clause-plan
 returns-in-Err-clause-plan g c = c.records.invariant.plan

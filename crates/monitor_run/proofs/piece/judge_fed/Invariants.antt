@@ -5,15 +5,15 @@ use Rattle.monitor_run.specs.Judging.{judge_bound}
 use Rattle.monitor_run.specs.Judging.{Spends}
 use Rattle.monitor_run.specs.Reading.{IsFed, IsFedWithin, Reads}
 use Rattle.monitor_run.specs.Standing.{IsReady, KeepsPlan}
-use Rattle.run_model.specs.declared.limits.Limits.{Limits}
+use Rattle.run_model.specs.Job.{Job}
 use Rattle.monitor_run.proofs.piece.judge_fed.Given as goal
 
 -- some events were judged
 abbrev pub invariant-records : goal.invariant-records
 invariant-records g l = record {
-  reads : (limits : Limits) (items : List Item) (all : Text) (left sent : Option Text) (given : Text) (ended : Bool) →
-      Reads limits items all left sent (g.W.Sink.written l.fn.out) given ended l.fn.judge l.fn.reader l.fn.output →
-      Reads limits items all left sent (g.W.Sink.written l.out) given ended l.judge l.reader l.output;
+  reads : (job : Job) (items : List Item) (all : Text) (left sent : Option Text) (given : Text) (ended : Bool) →
+      Reads job items all left sent (g.W.Sink.written l.fn.out) given ended l.fn.judge l.fn.reader l.fn.output →
+      Reads job items all left sent (g.W.Sink.written l.out) given ended l.judge l.reader l.output;
   within : IsFedWithin 281474976710656 l.reader l.judge.monitor.last_time;
   fed : (count : ℕ) → IsFed count l.fn.reader l.fn.judge.monitor.last_time → IsFed count l.reader l.judge.monitor.last_time;
   closed : l.reader.ended ≡ l.fn.reader.ended;

@@ -5,6 +5,7 @@ use Rattle.subformulas.specs.Table as table
 use Rattle.wellformed.specs.CoreTree.{CoreFormula}
 use Rattle.wellformed.specs.Expansion.{expanded_props}
 use Rattle.wellformed.specs.Kept.{AreKept}
+use Rattle.settings.specs.Asked.{asked_by}
 use Rattle.monitor_run.specs.Standing.{IsPlanOf}
 use Rattle.run_model.specs.Limits.{table_in, variables_in}
 use Rattle.monitor_run.proofs.Accepting.FewTerms.{plan_few}
@@ -36,8 +37,8 @@ returns-in-Ok-open-clause-ok c =
       items = items;
       spelled = c.in-Ok.ensures.ok;
       clear = c.in-Ok-check.ensures.accepted refl;
-      judged = judge_stands c.args.limits items _ (subst (λ (p : table.Table). IsPlanOf items p) (sym c.in-Ok-open.ensures.plan) is)
-          (record { bits = c.in-Ok-open.ensures.bits; nodes = c.in-Ok-open.ensures.room; cache = c.in-Ok-open.ensures.entries }) c.is_live-live.ensures.sound (c.is_live-live.ensures.alive (c.is_live-live.ensures.is ∙ c.in-Ok-open.ensures.stands.live)) c.in-Ok-open.ensures.stands refl refl;
+      judged = judge_stands (asked_by c.args.settings.now) items _ (subst (λ (p : table.Table). IsPlanOf items p) (sym c.in-Ok-open.ensures.plan) is)
+          (record { bits = c.in-Ok-open.ensures.bits; nodes = c.in-Ok-open.ensures.room; cache = c.in-Ok-open.ensures.entries }) refl c.is_live-live.ensures.sound (c.is_live-live.ensures.alive (c.is_live-live.ensures.is ∙ c.in-Ok-open.ensures.stands.live)) c.in-Ok-open.ensures.stands refl refl;
     }
 
 pub returns-in-Ok-open-clause-ready : goal.returns-in-Ok-open-clause-ready

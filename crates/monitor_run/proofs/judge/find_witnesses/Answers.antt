@@ -1,10 +1,9 @@
-use Rattle.std.proofs.Common.{◌≡◌, ◌∙◌, ℕ, ◌+◌, ◌≤◌, List, [], ◌∷◌, ◌++◌, map, take, refl, sym, ap, subst, arith, Some, true, false}
+use Rattle.std.proofs.Common.{◌∙◌, ℕ, ◌+◌, ◌≤◌, List, [], ◌∷◌, ◌++◌, map, refl, sym, ap, subst, Some, true, false}
 use Rattle.std.proofs.lemmas.List.{map-append}
-use Rattle.monitor_run.specs.Judging.{as_false_one, false_ones}
-use Rattle.monitor_run.specs.Standing.{row_of}
-use Rattle.monitor_run.proofs.Judged.Writing.{all_ones, bound_more, bound_stays, bound_whole, first_bound, false_adds, true_adds}
-use Rattle.monitor_run.proofs.judge.find_violations.Goals as goal
-use Rattle.monitor_run.proofs.judge.find_violations.Goals.{then-not-verdict+in_ok-witness+in_ok-push, else-not-verdict}
+use Rattle.report.specs.declared.shown.Shown.{Shown}
+use Rattle.monitor_run.proofs.Judged.Writing.{bound_more, bound_stays, bound_whole, first_bound, false_adds, true_adds}
+use Rattle.monitor_run.proofs.judge.find_witnesses.Goals as goal
+use Rattle.monitor_run.proofs.judge.find_witnesses.Goals.{then-not-verdict+in_ok-witness+in_ok-push, else-not-verdict}
 
 pub returns-in_err-witness-clause-cost : goal.returns-in_err-witness-clause-cost
 returns-in_err-witness-clause-cost g c =
@@ -26,12 +25,12 @@ loop-p-preserved g c =
     record {
       found = elim c.if-not-verdict.branch [
         | then-not-verdict+in_ok-witness+in_ok-push w ↦
-            ap (λ v. map as_false_one v.items) w.found-is
-            ∙ (ap (map as_false_one) w.in_ok-push.ensures.items
-            ∙ (map-append as_false_one c.loop-p.found.items _
-            ∙ (ap (λ (l : List (ℕ × _)). l ++ (p, w.in_ok-witness.witness.items) ∷ []) i.found
+            ap (λ v. map (λ w. w.items) v.items) w.found-is
+            ∙ (ap (map (λ w. w.items)) w.in_ok-push.ensures.items
+            ∙ (map-append (λ w. w.items) c.loop-p.found.items _
+            ∙ (ap (λ (l : List (List Shown)). l ++ w.in_ok-witness.witness.items ∷ []) i.found
             ∙ sym (false_adds m p _ w.in_ok-witness.witness.items (c.verdict.ensures.is ∙ ap Some w.if-not-verdict.true) refl w.in_ok-witness.ensures.is))))
-        | else-not-verdict w ↦ ap (λ v. map as_false_one v.items) w.found-is ∙ (i.found ∙ sym (true_adds m p (c.verdict.ensures.is ∙ ap Some w.if-not-verdict.false)))
+        | else-not-verdict w ↦ ap (λ v. map (λ w. w.items) v.items) w.found-is ∙ (i.found ∙ sym (true_adds m p (c.verdict.ensures.is ∙ ap Some w.if-not-verdict.false)))
       ];
       cost = elim c.if-not-verdict.branch [
         | then-not-verdict+in_ok-witness+in_ok-push w ↦
