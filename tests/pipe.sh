@@ -1,5 +1,5 @@
 #!/bin/sh
-# Tests the program at its real ends: pipes, standard input, a device that is full, files that are not there.
+# Tests the program at its real ends: pipes, standard input, a device that is full, files that are not there; and its options.
 # usage: tests/pipe.sh PROGRAM
 # No proof speaks of these ends, since what a file or a pipe gives and takes is outside the program.
 set -u
@@ -16,6 +16,7 @@ failed=0
 
 printf 'prop r : (! stop("a")) S go("a")\n' >"$work/spec"
 printf 'go,a\nstop,a\n' >"$work/log"
+printf 'prop t : exists x . P go(x) & exists y . P stop(y)\n' >"$work/two"
 printf 'violation 2 r\nevents 2 violations 1\n' >"$work/report"
 
 # A program that does not end is stopped after half a minute, and its status is then not the wanted one.
@@ -147,9 +148,37 @@ fi
 [ "$(cat "$work/status")" = 6 ]
 verdict 'a reader of the report that is gone' $?
 
-says 'no words' 2 'stopped: usage: dejavu SPEC LOG'
-says 'one word' 2 'stopped: usage: dejavu SPEC LOG' "$work/spec"
-says 'three words' 2 'stopped: usage: dejavu SPEC LOG' "$work/spec" "$work/log" "$work/log"
+usage='stopped: usage: dejavu [--bits B] [--nodes N] [--cache C] [--limit L] [--all] [--listen NAMES] [--sample SEED,EVENTS] SPEC [LOG]'
+says 'no words' 2 "$usage"
+says 'one word' 2 "$usage" "$work/spec"
+says 'three words' 2 "$usage" "$work/spec" "$work/log" "$work/log"
+says 'standard input twice' 2 "$usage" - -
+says 'a call for help' 2 "$usage" --help
+says 'a log and a sample' 2 "$usage" --sample 7,12 "$work/spec" "$work/log"
+says 'too many bits' 2 "$usage" --bits 21 "$work/spec" "$work/log"
+says 'a listener' 2 "$usage" --listen tally "$work/spec" "$work/log"
+says 'a limit within the first record' 4 'stopped: log longer than 4 bytes' --limit 4 "$work/spec" "$work/log"
+says 'too few nodes' 5 'stopped: nodes full at event 1, subformula 1, row 1' --nodes=2 --bits=8 "$work/two" "$work/log"
+
+printf 'holds 1 r\nviolation 2 r\nevents 2 violations 1\n' >"$work/wanted"
+bounded "$program" --all "$work/spec" "$work/log" </dev/null >"$work/out"
+compare 'true verdicts too' $? 1
+
+# On the sample of seed 7 a user who has logged out comes back once in four thousand events.
+printf 'prop access : forall u . access(u) -> [login(u), logout(u))\n' >"$work/users"
+: >"$work/wanted"
+event=3976
+user=793
+while [ "$event" -le 200000 ]; do
+    printf 'violation %s access u="u%s"\n' "$event" "$user" >>"$work/wanted"
+    event=$((event + 4000))
+    user=$((user + 1000))
+done
+printf 'events 200000 violations 50\n' >>"$work/wanted"
+bounded "$program" --bits 8 --nodes 65536 --sample 7,200000 "$work/users" </dev/null >"$work/out"
+compare 'a large sample' $? 1
+bounded "$program" --sample=7,200000 "$work/users" </dev/null >"$work/out"
+compare 'a large sample at the usual sizes' $? 1
 says 'names of no files' 6 'stopped: cannot open the specification' "$work/none" "$work/no-log"
 says 'no log of that name' 6 'stopped: cannot open the log' "$work/spec" "$work/no-log"
 # A directory can be opened, and each read of it fails.

@@ -1,4 +1,4 @@
-//! `dejavu SPEC LOG` checks a log against a property, and writes the report to standard output.
+//! `dejavu SPEC LOG` checks a log against the properties of a specification, and writes the report to standard output.
 #![tactic(auto)]
 
 ghost use Rattle.std.specs.Prelude.{◌≡◌, ◌<◌};

@@ -8,6 +8,9 @@ pub const SINCE: &str = "prop r : (! stop(\"a\")) S go(\"a\")\n";
 /// Who accesses logged in, and didn't log out since.
 pub const ACCESS: &str = "prop access : forall u . access(u) -> [login(u), logout(u))";
 
+/// Each acknowledgement comes at most ten units of time after its request.
+pub const DEADLINE: &str = "prop t : forall x . ack(x) -> P[<=10] req(x)";
+
 pub const FORMS: &[Case] = &[
     (
         "false at one event",
@@ -74,6 +77,13 @@ pub const RECORD_FAULTS: &[Case] = &[
         SINCE,
         "stop,a\n\ngo,\"a\"b\ngo,a\n",
         "violation 1 r\nstopped: text after quote at record 2\n",
+        4,
+    ),
+    (
+        "a quote open at the end, behind a violation and an empty line",
+        ACCESS,
+        "access,bob\n\nlogin,\"ann",
+        "violation 1 access u=\"bob\"\nstopped: quote not closed at record 2\n",
         4,
     ),
     (
@@ -203,6 +213,30 @@ pub const TIMED: &[Case] = &[
         1,
     ),
     (
+        "the last unit of a deadline",
+        DEADLINE,
+        "req,a,100\nack,a,110\nack,a,111\n",
+        "violation 3 t x=\"a\"\nevents 3 violations 1\n",
+        1,
+    ),
+    (
+        "the earliest of several counts",
+        "prop s : forall x . done(x) -> true S[>5] go(x)",
+        "go,a,0\ngo,a,4\ndone,a,6\n",
+        "events 3 violations 0\n",
+        0,
+    ),
+    (
+        "one holder at a time, and none for more than a minute",
+        "// who holds a lock took it, and hasn't given it back\n\
+         pred held(t,l) = [acq(t,l),rel(t,l))\n\
+         prop single : forall l . ! exists t . acq(t,l) & @ exists s . held(s,l)\n\
+         prop fresh : forall t . forall l . held(t,l) -> P[<=60] acq(t,l)\n",
+        "acq,t1,l1,0\nacq,t2,l1,10\nrel,t1,l1,20\ntick,70\ntick,71\n",
+        "violation 2 single l=\"l1\"\nviolation 5 fresh t=\"t2\" l=\"l1\"\nevents 5 violations 2\n",
+        1,
+    ),
+    (
         "the largest time",
         "prop h : H[<=5] ok",
         "ok,18446744073709551615\n",
@@ -224,6 +258,13 @@ pub const TIME_FAULTS: &[Case] = &[
         "prop h : H[<=5] ok",
         "bad,5\nok,5\nok,4\n",
         "violation 1 h\nviolation 2 h\nstopped: time falls from 5 to 4 at record 3\n",
+        4,
+    ),
+    (
+        "a time that falls behind a value",
+        DEADLINE,
+        "ack,a,7\nack,b,6\n",
+        "violation 1 t x=\"a\"\nstopped: time falls from 7 to 6 at record 2\n",
         4,
     ),
     (
@@ -258,6 +299,13 @@ pub const QUANTIFIED: &[Case] = &[
         1,
     ),
     ("no event", ACCESS, "", "events 0 violations 0\n", 0),
+    (
+        "a mark, blanks and carriage returns",
+        ACCESS,
+        "\u{feff} login , ann \r\n\naccess,\"ann\"\r\naccess,bob",
+        "violation 3 access u=\"bob\"\nevents 3 violations 1\n",
+        1,
+    ),
     (
         "a text that the log doesn't have",
         "prop q : forall x . P p(x)",
@@ -398,7 +446,8 @@ pub const OPTIONS: &[(&str, Case)] = &[
             "lines before codes are full",
             "prop a : false prop v : forall thing . P p(thing)",
             "q\np,a\np,b\n",
-            "violation 1 a\nviolation 1 v thing=*\nviolation 2 a\nviolation 2 v thing=*\nstopped: codes full at event 3, variable 0 (thing), need 2\n",
+            "violation 1 a\nviolation 1 v thing=*\nviolation 2 a\nviolation 2 v thing=*\n\
+             stopped: codes full at event 3, variable 0 (thing), need 2\n",
             5,
         ),
     ),
@@ -436,7 +485,7 @@ pub const OPTIONS: &[(&str, Case)] = &[
         "--bits=1 --nodes=1000 --cache=4000",
         (
             "an age tells a value apart",
-            "prop t : forall x . ack(x) -> P[<=10] req(x)",
+            DEADLINE,
             "req,a,0\nreq,b,5\n",
             "stopped: codes full at event 2, variable 0 (x), need 2\n",
             5,
@@ -446,10 +495,20 @@ pub const OPTIONS: &[(&str, Case)] = &[
         "--bits=1 --nodes=1000 --cache=4000",
         (
             "until it is too old",
-            "prop t : forall x . ack(x) -> P[<=10] req(x)",
+            DEADLINE,
             "req,a,0\ntick,20\nreq,b,21\nack,b,31\nack,b,32\n",
             "violation 5 t x=\"b\"\nevents 5 violations 1\n",
             1,
+        ),
+    ),
+    (
+        "--bits=8 --nodes=1000 --cache=4000 --limit=32",
+        (
+            "a limit within the third event",
+            ACCESS,
+            "login,ann\naccess,ann\naccess,bob\nlogout,ann\naccess,ann\n",
+            "violation 3 access u=\"bob\"\nstopped: log longer than 32 bytes\n",
+            4,
         ),
     ),
     (
@@ -468,7 +527,8 @@ pub const OPTIONS: &[(&str, Case)] = &[
             "true verdicts among false ones",
             "prop r : P go prop s : forall x . ! went(x) prop t : stop",
             "go\nwent,a\nstop\n",
-            "holds 1 r\nholds 1 s\nviolation 1 t\nholds 2 r\nviolation 2 s x=\"a\"\nviolation 2 t\nholds 3 r\nholds 3 s\nholds 3 t\nevents 3 violations 3\n",
+            "holds 1 r\nholds 1 s\nviolation 1 t\nholds 2 r\nviolation 2 s x=\"a\"\nviolation 2 t\n\
+             holds 3 r\nholds 3 s\nholds 3 t\nevents 3 violations 3\n",
             1,
         ),
     ),

@@ -1,6 +1,7 @@
--- The rule of witnesses: what is shown of a property that is false at an event. The variables that are
--- shown are those of the `forall` at its top. Each is shown as any text, where a text that the log doesn't
--- have can be extended to texts that make the formula below them false; else as the least text that can.
+-- The rule of witnesses: what is shown of a property that is false at an event. The variables that
+-- are shown are those of the `forall` at its top. Each is shown as any text, where a text that the
+-- log doesn't have can be extended to texts that make the formula below them false; else as the
+-- least text that can.
 use Rattle.std.specs.Prelude.{◌≡◌, ℕ, List, [], ◌∷◌, Bool, true, Some, slice_get}
 use Rattle.std.specs.Cmp.Lexicographic.{slice_cmp}
 use Rattle.std.specs.Option.{option_map}
@@ -42,8 +43,8 @@ module _ (t : Table) (log : List Event) (i : ℕ) where
   CanFail [] f nu = ¬ Truth log f nu i
   CanFail (x ∷ later) f nu = (u : Text) × IsText u × CanFail later f (put x u nu)
 
-  -- what is shown for x, and which text is chosen for it: one that the log doesn't have, or the least of
-  -- the log's that can be extended by texts for the later variables
+  -- what is shown for x, and which text is chosen for it: one that the log doesn't have, or the
+  -- least of the log's that can be extended by texts for the later variables
   abbrev pub IsShown : (x : ℕ) (later : List ℕ) → CoreFormula → Texts → Value → Text → Type 0
   IsShown x later f nu Any choice =
       (choice ≡ fresh t.subs log i) × CanFail later f (put x choice nu)

@@ -1,10 +1,11 @@
 -- The order of texts by bytes, and the least of several.
 use Rattle.std.proofs.Common.{◌≡◌, ◌⊎◌, ⊎_elim, refl, sym, ◌∙◌, ap, subst, Bool, true, false, Option, Some, None, Ordering, Less, Equal, Greater}
 use Rattle.std.specs.Prelude.{if◌then◌else◌}
-use Rattle.std.specs.Cmp.Lexicographic.{slice_cmp, nat_list_cmp_total, texts_ties, bytes_decides}
-use Rattle.std.specs.Ordering.{is_lt, is_eq, nat_cmp, ordering_reverse}
+use Rattle.std.specs.Cmp.Lexicographic.{slice_cmp, nat_list_cmp_total}
+use Rattle.std.specs.Ordering.{is_lt, nat_cmp, ordering_reverse}
 use Rattle.qtl_syntax.specs.Tree.{Text}
 use Rattle.report.specs.Witness.{is_before, IsLeast}
+use Rattle.report.proofs.OneWitness.{same_place}
 use Rattle.witness.specs.Searching.{lesser_of, IsLeastIfAny}
 
 abbrev Before : Text → Text → Type 0
@@ -37,16 +38,6 @@ own_reverse Greater e = refl
 
 not_before_itself : (t : Text) → ¬ Before t t
 not_before_itself t h = let no : true ≡ false = sym h ∙ own_reverse (slice_cmp nat_cmp t t) (nat_list_cmp_total.antisymm t t) in absurd (let none : ⊥ = cc in none)
-
-neither : (o : Ordering) → ¬ (is_lt o ≡ true) → ¬ (is_lt (ordering_reverse o) ≡ true) → is_eq o ≡ true
-neither Less h k = absurd (h refl)
-neither Equal h k = refl
-neither Greater h k = absurd (k refl)
-
--- two texts of which neither stands before the other are the same
-pub same_place : (a b : Text) → ¬ Before a b → ¬ Before b a → a ≡ b
-same_place a b h k =
-    (bytes_decides a b).0 (texts_ties a b ∙ neither (slice_cmp nat_cmp a b) h (λ e. k (ap is_lt (nat_list_cmp_total.antisymm b a) ∙ e)))
 
 -- the least of the texts of which either of two claims holds
 pub least_either : (P Q R : Text → Type 0) (a b : Option Text) → ((u : Text) → P u → R u) → ((u : Text) → Q u → R u) → ((u : Text) → R u → P u ⊎ Q u) →
