@@ -175,7 +175,14 @@ pub fn judge_event<W: Sink, L: Ledger>(
     };
     judge.events += 1;
     let witnesses = found.as_slice();
-    match put_verdicts(output, out, judge.events, &judge.monitor, judge.shows_true, witnesses) {
+    match put_verdicts(
+        output,
+        out,
+        judge.events,
+        &judge.monitor,
+        judge.shows_true,
+        witnesses,
+    ) {
         Ok(()) => {
             judge.violations += found.len() as u64;
             Ok(())

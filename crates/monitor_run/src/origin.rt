@@ -112,11 +112,30 @@ pub fn run_log<F: Files, W: Sink, L: Ledger>(
     match &settings.log {
         LogFrom::File(name) => {
             let name = name.as_str();
-            run_file(judge, &mut reader, room, name, files, output, out, steps, limit)
+            run_file(
+                judge,
+                &mut reader,
+                room,
+                name,
+                files,
+                output,
+                out,
+                steps,
+                limit,
+            )
         }
         LogFrom::Sample { seed, events } => {
             let mut source = SampleSource::new(*seed, *events, timed);
-            read_log(judge, &mut reader, room, &mut source, output, out, steps, limit)
+            read_log(
+                judge,
+                &mut reader,
+                room,
+                &mut source,
+                output,
+                out,
+                steps,
+                limit,
+            )
         }
     }
 }

@@ -11,7 +11,8 @@ use crate::which::{Which, name_of};
 use mon_base::{Failed, Sink};
 
 /// How the words are to be.
-const USAGE: &[u8] = b"stopped: usage: dejavu [--bits B] [--nodes N] [--cache C] [--limit L] [--all] \
+const USAGE: &[u8] =
+    b"stopped: usage: dejavu [--bits B] [--nodes N] [--cache C] [--limit L] [--all] \
 [--listen NAMES] [--sample SEED,EVENTS] SPEC [LOG]\n";
 
 /// Holds back the line that tells how the words are to be.

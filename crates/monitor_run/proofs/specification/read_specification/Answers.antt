@@ -21,8 +21,7 @@ returns-clause-err g c =
 
 pub returns-clause-uses : goal.returns-clause-uses
 returns-clause-uses g c =
-    let (uses, asked, told) = c.in-Ok.ensures.uses in
-    (
+    let (uses, asked, told) = c.in-Ok.ensures.uses in (
       uses,
       asks_read (string_bytes c.args.settings.now.spec) c.judge_in.result c.as_slice.result.now uses (subst (λ (name : Text). AreAsked (given name ∷ []) uses) c.as_str.ensures.value asked) c.judge_in.ensures.err,
       told,
