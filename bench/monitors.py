@@ -1,4 +1,5 @@
 """Times monitors on one log: one run of each in turn, for some rounds. Called by monitors.sh."""
+import filecmp
 import os
 import statistics
 import sys
@@ -35,13 +36,17 @@ def main():
 
     print(f"processor: {processor()}")
     print(f"{events} events, {rounds} rounds; user and system time")
-    print("monitor          ns/event: median   least  greatest   peak KiB   to dejavu")
+    print("monitor          ns/event: median   least  greatest   peak KiB   to dejavu   report")
     own = statistics.median(seconds["dejavu"])
     for name in names:
         times = sorted(seconds[name])
         median = statistics.median(times)
         each = [1e9 * it / events for it in (median, times[0], times[-1])]
-        print(f"{name:24} {each[0]:10.0f} {each[1]:7.0f} {each[2]:9.0f} {peaks[name]:10} {median / own:11.2f}")
+        alike = filecmp.cmp(f"{log}.{names[0]}", f"{log}.{name}", shallow=False)
+        report = "same" if alike else "same but for values"
+        print(
+            f"{name:24} {each[0]:10.0f} {each[1]:7.0f} {each[2]:9.0f} {peaks[name]:10} {median / own:11.2f}   {report}"
+        )
 
 
 if __name__ == "__main__":
