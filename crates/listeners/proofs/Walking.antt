@@ -2,7 +2,7 @@
 use Rattle.std.proofs.Common.{◌≡◌, ◌<◌, ◌+◌, ℕ, suc, Bool, false, List, [], ◌∷◌, ◌++◌, length, map, take, drop, set, get_or, inl, inr, refl, sym, ap, ◌∙◌, subst, arith, add-one, take-suc, take-suc-set, drop-cons, drop-set-lt}
 use Rattle.std.proofs.Math.Seq.{map-set_same}
 use Rattle.std.proofs.lemmas.List.{take-set, drop-set, take-append-drop}
-use Rattle.listeners.specs.Each.{Each, StopsAtOne}
+use Rattle.listeners.specs.Each.{Each, StopsAt}
 
 -- one listener more at the end
 each_append : {B : Type 0} (R : B → B → Bool → Bool → Type 0) (bs cs : List B) (fs gs : List Bool) (b c : B) (f g : Bool)
@@ -40,7 +40,7 @@ each_step R old cur fs gs i b c f g h1 h2 h3 h4 each same same_flags b_is f_is o
 
 -- those before were called, and then one refused
 stops_behind : {B : Type 0} (R : B → B → Bool → Bool → Type 0) (S : B → B → Type 0) (bs cs xs ys : List B) (fs gs hs ks : List Bool)
-    → Each R bs cs fs gs → StopsAtOne R S xs ys hs ks → StopsAtOne R S (bs ++ xs) (cs ++ ys) (fs ++ hs) (gs ++ ks)
+    → Each R bs cs fs gs → StopsAt R S xs ys hs ks → StopsAt R S (bs ++ xs) (cs ++ ys) (fs ++ hs) (gs ++ ks)
 stops_behind R S [] [] xs ys [] [] hs ks each stops = stops
 stops_behind R S (b ∷ bs) (c ∷ cs) xs ys (f ∷ fs) (g ∷ gs) hs ks each stops = inl (each.0, stops_behind R S bs cs xs ys fs gs hs ks each.1 stops)
 stops_behind R S _ _ xs ys _ _ hs ks each stops = absurd each
@@ -55,15 +55,15 @@ pub stops_here : {B : Type 0} (R : B → B → Bool → Bool → Type 0) (S : B 
     → i < length old → i < length cur → i < length fs → i < length gs
     → Each R (take i old) (take i cur) (take i fs) (take i gs) → drop i cur ≡ drop i old → drop i gs ≡ drop i fs
     → b ≡ get_or cur i b → f ≡ get_or gs i f → f ≡ false → S b c
-    → StopsAtOne R S old (set cur i c) fs gs
+    → StopsAt R S old (set cur i c) fs gs
 stops_here {B} R S old cur fs gs i b c f h1 h2 h3 h4 each same same_flags b_is f_is unflagged refuses =
     let e1 : drop i old ≡ b ∷ drop (suc i) old = drop-cons old i b h1 ∙ ap (λ (y : B). y ∷ drop (suc i) old) (sym (b_is ∙ (same_next old cur i b h1 h2 same).0)) in
     let e2 : drop i (set cur i c) ≡ c ∷ drop (suc i) old = drop-set cur i c h2 ∙ rw add-one (ap (λ (ys : List B). c ∷ ys) (same_next old cur i b h1 h2 same).1) in
     let e3 = flags_from fs gs i f h3 h4 same_flags f_is in
     let e4 = same_flags ∙ e3 in
-    let tail : StopsAtOne R S (drop i old) (drop i (set cur i c)) (drop i fs) (drop i gs) = rw (e1, e2, e3, e4) (inr (refuses, refl, unflagged, unflagged, refl)) in
+    let tail : StopsAt R S (drop i old) (drop i (set cur i c)) (drop i fs) (drop i gs) = rw (e1, e2, e3, e4) (inr (refuses, unflagged, unflagged, refl, refl)) in
     let e5 : take i (set cur i c) ≡ take i cur = take-set cur i c in
-    let whole : StopsAtOne R S (take i old ++ drop i old) (take i (set cur i c) ++ drop i (set cur i c)) (take i fs ++ drop i fs) (take i gs ++ drop i gs)
+    let whole : StopsAt R S (take i old ++ drop i old) (take i (set cur i c) ++ drop i (set cur i c)) (take i fs ++ drop i fs) (take i gs ++ drop i gs)
     = stops_behind R S _ _ _ _ _ _ _ _ (rw e5 each) tail in
     rw (← take-append-drop i old, ← take-append-drop i (set cur i c), ← take-append-drop i fs, ← take-append-drop i gs) whole
 

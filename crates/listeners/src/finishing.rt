@@ -1,7 +1,7 @@
 //! One listener is finished, and all are.
 ghost use Rattle.std.specs.Prelude.{◌≡◌, ◌≤◌, map, vec_len, IfOk, OnOk, OnErr, IsErrOf, false};
 ghost use Rattle.mon_base.specs.Causes.{Rose};
-ghost use Rattle.listeners.specs.Meaning.{BecomesTrue, Meaning, Refuses};
+ghost use Rattle.listeners.specs.Meaning.{BecomesTrue, LacksMemory, meaning_of};
 ghost use Rattle.listeners.specs.Each.{IsFinished, EachIsFinished, FinishingStops};
 
 use crate::{Listener, TellEnd};
@@ -25,22 +25,15 @@ fn finish_one(listener: &mut Box<dyn Listener>) -> Result<(), TellEnd>
 
 /// Finishes one listener unless its flag is set, and gives its flag from then on.
 fn finish_unflagged(listener: &mut Box<dyn Listener>, was: bool) -> Result<bool, NoMemory>
-    ensures ok { IfOk result (λ now. IsFinished (record {
-      name = λ b. name b;
-      told = λ b. told b;
-      finished = λ b. finished b;
-      faults = λ b. faults b;
-    })
+    ensures ok { IfOk result (λ now. IsFinished
+        (meaning_of (λ b. name b) (λ b. told b) (λ b. finished b) (λ b. faults b))
         listener.old listener.new was now) }
     ensures name { name listener.new ≡ name listener.old }
     ensures told { told listener.new ≡ told listener.old }
     ensures unflagged { OnErr result (was ≡ false) }
-    ensures err { OnErr result (Refuses (record {
-      name = λ b. name b;
-      told = λ b. told b;
-      finished = λ b. finished b;
-      faults = λ b. faults b;
-    }) listener.old listener.new) }
+    ensures err { OnErr result (LacksMemory
+        (meaning_of (λ b. name b) (λ b. told b) (λ b. finished b) (λ b. faults b))
+        listener.old listener.new) }
 {
     if was {
         return Ok(true);
@@ -59,19 +52,11 @@ pub fn finish_all(
     failed: &mut Vec<bool>,
 ) -> Result<(), NoMemory>
     requires { vec_len listeners.old ≡ vec_len failed.old }
-    ensures ok { OnOk result (EachIsFinished (record {
-      name = λ b. name b;
-      told = λ b. told b;
-      finished = λ b. finished b;
-      faults = λ b. faults b;
-    })
+    ensures ok { OnOk result (EachIsFinished
+        (meaning_of (λ b. name b) (λ b. told b) (λ b. finished b) (λ b. faults b))
         listeners.old.items listeners.new.items failed.old.items failed.new.items) }
-    ensures err { OnErr result (FinishingStops (record {
-      name = λ b. name b;
-      told = λ b. told b;
-      finished = λ b. finished b;
-      faults = λ b. faults b;
-    })
+    ensures err { OnErr result (FinishingStops
+        (meaning_of (λ b. name b) (λ b. told b) (λ b. finished b) (λ b. faults b))
         listeners.old.items listeners.new.items failed.old.items failed.new.items) }
     ensures names { map (λ b. name b) listeners.new.items
         ≡ map (λ b. name b) listeners.old.items }

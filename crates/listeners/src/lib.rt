@@ -4,6 +4,7 @@
 mod csv_report;
 mod fail_listener;
 mod finishing;
+mod laws;
 mod listener;
 mod tally;
 mod telling;
@@ -12,6 +13,7 @@ mod told;
 pub use csv_report::CsvReport;
 pub use fail_listener::FailListener;
 pub use finishing::finish_all;
+pub use laws::row_reads_back;
 pub use listener::Listener;
 pub use tally::Tally;
 pub use telling::tell_all;

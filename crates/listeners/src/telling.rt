@@ -2,7 +2,7 @@
 ghost use Rattle.std.specs.Prelude.{◌≡◌, ◌≤◌, map, vec_len, IfOk, OnOk, OnErr, IsErrOf, false};
 ghost use Rattle.mon_base.specs.Causes.{Rose};
 ghost use Rattle.mon_base.specs.Told.{Gains};
-ghost use Rattle.listeners.specs.Meaning.{Meaning, Refuses};
+ghost use Rattle.listeners.specs.Meaning.{LacksMemory, meaning_of};
 ghost use Rattle.listeners.specs.Each.{IsTold, EachIsTold, TellingStops};
 
 use crate::{Listener, TellEnd, Told};
@@ -30,22 +30,15 @@ fn tell_unflagged(
     was: bool,
     violation: &Told,
 ) -> Result<bool, NoMemory>
-    ensures ok { IfOk result (λ now. IsTold (record {
-      name = λ b. name b;
-      told = λ b. told b;
-      finished = λ b. finished b;
-      faults = λ b. faults b;
-    })
+    ensures ok { IfOk result (λ now. IsTold
+        (meaning_of (λ b. name b) (λ b. told b) (λ b. finished b) (λ b. faults b))
         violation.now listener.old listener.new was now) }
     ensures name { name listener.new ≡ name listener.old }
     ensures finished { finished listener.new ≡ finished listener.old }
     ensures unflagged { OnErr result (was ≡ false) }
-    ensures err { OnErr result (Refuses (record {
-      name = λ b. name b;
-      told = λ b. told b;
-      finished = λ b. finished b;
-      faults = λ b. faults b;
-    }) listener.old listener.new) }
+    ensures err { OnErr result (LacksMemory
+        (meaning_of (λ b. name b) (λ b. told b) (λ b. finished b) (λ b. faults b))
+        listener.old listener.new) }
 {
     if was {
         return Ok(true);
@@ -65,19 +58,13 @@ pub fn tell_all(
     violation: &Told,
 ) -> Result<(), NoMemory>
     requires { vec_len listeners.old ≡ vec_len failed.old }
-    ensures ok { OnOk result (EachIsTold (record {
-      name = λ b. name b;
-      told = λ b. told b;
-      finished = λ b. finished b;
-      faults = λ b. faults b;
-    }) violation.now
+    ensures ok { OnOk result (EachIsTold
+        (meaning_of (λ b. name b) (λ b. told b) (λ b. finished b) (λ b. faults b))
+        violation.now
         listeners.old.items listeners.new.items failed.old.items failed.new.items) }
-    ensures err { OnErr result (TellingStops (record {
-      name = λ b. name b;
-      told = λ b. told b;
-      finished = λ b. finished b;
-      faults = λ b. faults b;
-    }) violation.now
+    ensures err { OnErr result (TellingStops
+        (meaning_of (λ b. name b) (λ b. told b) (λ b. finished b) (λ b. faults b))
+        violation.now
         listeners.old.items listeners.new.items failed.old.items failed.new.items) }
     ensures names { map (λ b. name b) listeners.new.items
         ≡ map (λ b. name b) listeners.old.items }
