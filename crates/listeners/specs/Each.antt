@@ -1,4 +1,4 @@
--- What a call on all listeners makes of each of them and of its flag, which is set once a call failed.
+-- What a call on all listeners makes of each, and of its flag, which is set once a call of it failed.
 use Rattle.std.specs.Prelude.{◌≡◌, Bool, true, false, List, [], ◌∷◌, ⊤, ◌⊎◌}
 use Rattle.listeners.specs.Meaning.{Meaning, TellSucceeds, FinishSucceeds, CallFails, LacksMemory}
 

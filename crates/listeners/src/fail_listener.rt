@@ -1,5 +1,6 @@
 //! A listener for tries, which fails where it is told to.
-ghost use Rattle.std.specs.Prelude.{◌≡◌, ◌≤◌, ◌↔◌, ◌∷◌, ◌++◌, [], Contains, IsErrOf, IsTrue, OnErr, OnOk, Some, string_bytes, true, false};
+ghost use Rattle.std.specs.Prelude.{◌≡◌, ◌≤◌, ◌↔◌, ◌∷◌, ◌++◌, [], Contains, IsErrOf, IsTrue};
+ghost use Rattle.std.specs.Prelude.{OnErr, OnOk, Some, string_bytes, true, false};
 ghost use Rattle.mon_base.specs.Causes.{CountsErrors, HasCause, Rose, next_count};
 
 use crate::{Listener, TellEnd, Told};
@@ -20,8 +21,8 @@ pub struct FailListener {
 }
 
 impl FailListener {
-    /// Its `tell` fails where the number of its calls before stands in `fail_tell`, those that failed
-    /// or had no memory among them; its `finish` where `fail_finish` is true.
+    /// Its `tell` fails where the number of its earlier calls stands in `fail_tell`; those that failed
+    /// or had no memory count too. Its `finish` fails where `fail_finish` is true.
     pub fn new(alloc: Global, name: String, fail_tell: Vec<u64>, fail_finish: bool) -> FailListener
         ensures name { result.name ≡ name }
         ensures fail_tell { result.fail_tell ≡ fail_tell }

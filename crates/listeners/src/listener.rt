@@ -1,5 +1,6 @@
 //! What is asked of a listener.
-ghost use Rattle.std.specs.Prelude.{◌≡◌, ◌≤◌, ◌↔◌, ℕ, List, Option, Bool, IsTrue, OnOk, OnErr, IsErrOf};
+ghost use Rattle.std.specs.Prelude.{◌≡◌, ◌≤◌, ◌↔◌, ℕ, List, Option, Bool, IsTrue};
+ghost use Rattle.std.specs.Prelude.{OnOk, OnErr, IsErrOf};
 ghost use Rattle.mon_base.specs.Causes.{Rose};
 ghost use Rattle.mon_base.specs.Told.{Gains};
 

@@ -11,18 +11,18 @@ loop-i-preserved g c =
     let old_flags = c.args.failed.now.ok.0 in
     let cur_flags = c.loop-i.failed.ok.0 in
     let equal = c.requires in
-    let h1 : c.loop-i.i < length c.args.listeners.now.items = omega arith in
-    let h2 : c.loop-i.i < length c.loop-i.listeners.items = omega arith in
-    let h3 : c.loop-i.i < length c.args.failed.now.items = omega arith in
-    let h4 : c.loop-i.i < length c.loop-i.failed.items = omega arith in
+    let in_old : c.loop-i.i < length c.args.listeners.now.items = omega arith in
+    let in_cur : c.loop-i.i < length c.loop-i.listeners.items = omega arith in
+    let in_old_flags : c.loop-i.i < length c.args.failed.now.items = omega arith in
+    let in_cur_flags : c.loop-i.i < length c.loop-i.failed.items = omega arith in
+    let here = c.index_mut.ensures.value in
     record {
-      before = each_step _ c.args.listeners.now.items c.loop-i.listeners.items c.args.failed.now.items c.loop-i.failed.items c.loop-i.i
-          c.index_mut.result.now c.finish_unflagged.new.listener c.index.result.now c.in_ok-failed.field-0
-          h1 h2 h3 h4 inv.before inv.same inv.same_flags c.index_mut.ensures.value c.index.ensures c.in_ok-failed.ensures.ok;
-      same = same_behind c.args.listeners.now.items c.loop-i.listeners.items c.loop-i.i c.finish_unflagged.new.listener h1 h2 inv.same;
-      same_flags = same_behind c.args.failed.now.items c.loop-i.failed.items c.loop-i.i c.in_ok-failed.field-0 h3 h4 inv.same_flags;
-      names = map_stays _ c.args.listeners.now.items c.loop-i.listeners.items c.loop-i.i c.index_mut.result.now c.finish_unflagged.new.listener c.index_mut.ensures.value c.finish_unflagged.ensures.name inv.names;
-      told = map_stays _ c.args.listeners.now.items c.loop-i.listeners.items c.loop-i.i c.index_mut.result.now c.finish_unflagged.new.listener c.index_mut.ensures.value c.finish_unflagged.ensures.told inv.told;
+      before = each_step _ _ _ _ _ _ _ _ _ _ in_old in_cur in_old_flags in_cur_flags
+          inv.before inv.same inv.same_flags here c.index.ensures c.in_ok-failed.ensures.ok;
+      same = same_behind _ _ _ _ in_old in_cur inv.same;
+      same_flags = same_behind _ _ _ _ in_old_flags in_cur_flags inv.same_flags;
+      names = map_stays _ _ _ _ _ _ here c.finish_unflagged.ensures.name inv.names;
+      told = map_stays _ _ _ _ _ _ here c.finish_unflagged.ensures.told inv.told;
       count = inv.count;
       flags = inv.flags;
     }
@@ -35,19 +35,21 @@ returns-in_err-failed-clause-err g c =
     let old_flags = c.args.failed.now.ok.0 in
     let cur_flags = c.loop-i.failed.ok.0 in
     let equal = c.requires in
-    let h1 : c.loop-i.i < length c.args.listeners.now.items = omega arith in
-    let h2 : c.loop-i.i < length c.loop-i.listeners.items = omega arith in
-    let h3 : c.loop-i.i < length c.args.failed.now.items = omega arith in
-    let h4 : c.loop-i.i < length c.loop-i.failed.items = omega arith in
+    let in_old : c.loop-i.i < length c.args.listeners.now.items = omega arith in
+    let in_cur : c.loop-i.i < length c.loop-i.listeners.items = omega arith in
+    let in_old_flags : c.loop-i.i < length c.args.failed.now.items = omega arith in
+    let in_cur_flags : c.loop-i.i < length c.loop-i.failed.items = omega arith in
+    let one = c.in_err-failed.ensures in
     on_err c.from_residual.result
-    (stops_here _ _ c.args.listeners.now.items c.loop-i.listeners.items c.args.failed.now.items c.loop-i.failed.items c.loop-i.i
-    c.index_mut.result.now c.finish_unflagged.new.listener c.index.result.now
-    h1 h2 h3 h4 inv.before inv.same inv.same_flags c.index_mut.ensures.value c.index.ensures c.in_err-failed.ensures.unflagged c.in_err-failed.ensures.err)
+    (stops_here _ _ _ _ _ _ _ _ _ _ in_old in_cur in_old_flags in_cur_flags
+    inv.before inv.same inv.same_flags c.index_mut.ensures.value c.index.ensures
+    one.unflagged one.err)
 
 pub returns-in_err-failed-clause-names : goal.returns-in_err-failed-clause-names
 returns-in_err-failed-clause-names g c =
-    map_stays _ c.args.listeners.now.items c.loop-i.listeners.items c.loop-i.i c.index_mut.result.now c.finish_unflagged.new.listener c.index_mut.ensures.value c.finish_unflagged.ensures.name c.loop-i.invariant.names
+    map_stays _ _ _ _ _ _ c.index_mut.ensures.value c.finish_unflagged.ensures.name c.loop-i.invariant.names
 
 pub returns-in_err-failed-clause-told : goal.returns-in_err-failed-clause-told
 returns-in_err-failed-clause-told g c =
-    map_stays _ c.args.listeners.now.items c.loop-i.listeners.items c.loop-i.i c.index_mut.result.now c.finish_unflagged.new.listener c.index_mut.ensures.value c.finish_unflagged.ensures.told c.loop-i.invariant.told
+    map_stays _ _ _ _ _ _ c.index_mut.ensures.value c.finish_unflagged.ensures.told
+    c.loop-i.invariant.told

@@ -1,4 +1,4 @@
-use Rattle.std.proofs.Common.{[], ◌∷◌, ◌∙◌, codes, decimal}
+use Rattle.std.proofs.Common.{◌∙◌, codes, decimal}
 use Rattle.std.proofs.lemmas.Result.{on_err_weaker}
 use Rattle.mon_base.proofs.Appending.{on_err}
 use Rattle.listeners.proofs.Parts.{front_first, front_second}
