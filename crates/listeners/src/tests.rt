@@ -104,6 +104,7 @@ fn outcome(alloc: Global, csv_room: usize, tally_room: usize) -> Result<String, 
     Ok(text)
 }
 
+/// The rooms of the two sinks, and the outcome.
 #[rattlefmt::skip]
 const OUTCOMES: &[(usize, usize, &str)] = &[
     (80, 8, "-- -- -- 3,access,\"violation 3 access u=\"\"bob\"\"\"\n5,access,\"violation 5 access u=\"\"ann\"\"\"\ntally 2\n"),
