@@ -1,0 +1,4 @@
+pub mod Meaning
+pub mod Each
+pub mod Lines
+pub mod Laws
